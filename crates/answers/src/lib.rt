@@ -1,0 +1,50 @@
+// What the operations answer: the reasons for a refusal, with document 01's number for each.
+ghost use mathlib.Core.Path.{_≡_};
+ghost use Rattle.answers.specs.Answer.{numberOf};
+
+// Why an operation refuses. In document 01 each is a number, which `numberOf` in specs/ gives.
+pub enum Refusal {
+    // Under 16 bytes.
+    HeaderShort,
+    // No line, or over 64 of them.
+    Lines,
+    // No level, or over 8 of them; for a tree, a height over 8.
+    Levels,
+    Offset,
+    FileLength,
+    // A sign or a kind over 1.
+    SignOrKind,
+    // A selected line that is none of the model's.
+    StraySelection,
+    // A line without operands.
+    NoOperand,
+    // A set with a line that is none of the model's, or a lower bound not within its upper bound.
+    Bounds,
+    // More queries than the ceiling allows.
+    Ceiling,
+    Tree,
+    // A lent slice or buffer too short.
+    Room,
+    // A lent slice that is not as long as the counts say.
+    SliceLength,
+}
+
+pub fn number(r: Refusal) -> u64
+    ensures { λ e. ⌜ e ≡ numberOf r ⌝ }
+{
+    match r {
+        Refusal::HeaderShort => 1,
+        Refusal::Lines => 2,
+        Refusal::Levels => 3,
+        Refusal::Offset => 4,
+        Refusal::FileLength => 5,
+        Refusal::SignOrKind => 6,
+        Refusal::StraySelection => 7,
+        Refusal::NoOperand => 8,
+        Refusal::Bounds => 9,
+        Refusal::Ceiling => 10,
+        Refusal::Tree => 11,
+        Refusal::Room => 12,
+        Refusal::SliceLength => 13,
+    }
+}

@@ -1,0 +1,12 @@
+pub mod Order
+pub mod Dual
+pub mod Levels
+pub mod Nested
+pub mod Narrow
+pub mod Restricted
+pub mod Fit
+pub mod Reach
+pub mod Universal
+pub mod Queries
+pub mod Plain
+pub mod Sets

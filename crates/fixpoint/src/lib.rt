@@ -1,0 +1,1 @@
+// Definitions and theorems alone: nested fixpoints, plain rounds and tree-restricted values of any monotone query (specs/, proofs/).

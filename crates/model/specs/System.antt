@@ -1,0 +1,22 @@
+-- A system of Boolean fixpoint equations: document 01's model, as the object that its file stands for.
+-- It has n lines and d levels, a sign for each level, a kind for each line, and for each line a word for each level.
+-- Assumes nothing.
+use mathlib.Core.Bool.{Bool}
+use mathlib.Core.List.{List}
+use Prim.Native.Nat.{ℕ}
+use lib.Dec.{eqb}
+use lib.ListN.{getD}
+
+pub record System : Type 0 where
+  pub lines : ℕ
+  pub levels : ℕ
+  -- level 1 first; 0 is least, 1 greatest
+  pub signs : List ℕ
+  -- line 0 first; 0 is any, 1 all
+  pub kinds : List ℕ
+  -- line 0 first, within a line level 1 first; bit j of the word for level k says that line j, as valued at level k, is an operand
+  pub words : List ℕ
+
+-- whether level k + 1 is greatest
+abbrev pub sign : System → ℕ → Bool
+sign m k = eqb (getD (m .signs) k 0) 1

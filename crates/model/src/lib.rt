@@ -1,0 +1,1 @@
+// Definitions alone so far: the model and its query (specs/).

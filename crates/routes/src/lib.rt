@@ -1,0 +1,1 @@
+// Definitions alone so far: what each route gives for a model (specs/).

@@ -1,0 +1,64 @@
+-- The samples that document 01 marks † as one table, whose rows all hold by computing the definitions.
+-- Assumes nothing.
+use mathlib.Core.Bool.{Bool, true, false}
+use mathlib.Core.List.{List, [], _∷_}
+use mathlib.Core.Path.{_≡_, refl}
+use Prim.Native.Nat.{ℕ}
+use Rattle.sets.specs.Extreme.{meet-closed, join-open}
+use Rattle.trees.specs.Tree.{children, grow}
+use Rattle.trees.specs.Built.{built, built-children, leafCount}
+use Rattle.fixpoint.specs.Levels.{least-levels, greatest-levels}
+use Rattle.fixpoint.specs.Nested.{nested, extreme}
+use Rattle.fixpoint.specs.Restricted.{restricted, level, rise, fall, sum-over, level-queries, restricted-queries}
+use Rattle.fixpoint.specs.Plain.{Run, then-rounds, settle, plain}
+use Rattle.model.specs.System.{System}
+use Rattle.model.specs.Query.{selected, operands, setOf, query}
+use Rattle.routes.specs.Routes.{leastLevels, greatestLevels, nestedSet, plainRun, restrictedSet, restrictedCount}
+use Rattle.samples.specs.Models.{P, Q, one}
+
+-- what the definitions give, and what document 01 says
+pub record Row : Type 0 where
+  pub given : List ℕ
+  pub said : List ℕ
+
+abbrev row : List ℕ → List ℕ → Row
+row given said = record { given = given; said = said }
+
+-- a model between two bounds: the nested fixpoint, then the plain set and count
+abbrev plainly : System → ℕ → ℕ → List ℕ
+plainly m a b = nestedSet m a b ∷ plainRun m a b .value ∷ plainRun m a b .queries ∷ []
+
+-- the set and count over two trees
+abbrev over : System → ℕ → ℕ → List ℕ → List ℕ → List ℕ
+over m a b u v = restrictedSet m a b u v ∷ restrictedCount m u v ∷ []
+
+-- the set and count over the built-in trees
+abbrev overBuilt : System → ℕ → ℕ → List ℕ
+overBuilt m a b = over m a b (built (m .lines) (leastLevels m)) (built (m .lines) (greatestLevels m))
+
+unfoldable pub table : List Row
+table =
+    row (plainly Q 0 3) (0 ∷ 0 ∷ 3 ∷ []) ∷
+    row (overBuilt Q 0 3) (0 ∷ 4 ∷ []) ∷
+    row (over P 0 3 [] []) (2 ∷ 1 ∷ []) ∷
+    row (over P 0 3 (1 ∷ []) []) (3 ∷ 2 ∷ []) ∷
+    row (over Q 0 3 [] []) (1 ∷ 1 ∷ []) ∷
+    row (plainly (one 0) 0 1) (0 ∷ 0 ∷ 1 ∷ []) ∷
+    row (plainly (one 1) 0 1) (1 ∷ 1 ∷ 1 ∷ []) ∷
+    row (nestedSet P 1 1 ∷ plainRun P 1 1 .value ∷ overBuilt P 1 1) (1 ∷ 1 ∷ 1 ∷ 4 ∷ []) ∷
+    row (built 2 2) (2 ∷ 1 ∷ []) ∷
+    row (built 3 2) (2 ∷ 1 ∷ 1 ∷ 2 ∷ []) ∷
+    row (leafCount 4 2 ∷ leafCount 8 2 ∷ leafCount 4 3 ∷ leafCount 64 1 ∷ []) (8 ∷ 21 ∷ 13 ∷ 64 ∷ []) ∷
+    -- the output that document 01 gives for P
+    row (plainly P 0 3) (3 ∷ 3 ∷ 3 ∷ []) ∷
+    row (overBuilt P 0 3) (3 ∷ 4 ∷ []) ∷
+    []
+
+-- every row of a table holds
+abbrev pub Holds : List Row → Type 0
+Holds [] = Unit {0}
+Holds (r ∷ rs) = (r .given ≡ r .said) × Holds rs
+
+pub samples-hold : Holds table
+unfolding table nested extreme restricted level rise fall sum-over level-queries restricted-queries then-rounds settle plain least-levels greatest-levels built built-children leafCount grow children meet-closed join-open selected operands setOf query
+samples-hold = (refl, (refl, (refl, (refl, (refl, (refl, (refl, (refl, (refl, (refl, (refl, (refl, (refl, tt)))))))))))))

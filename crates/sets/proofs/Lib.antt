@@ -1,0 +1,4 @@
+pub mod Order
+pub mod Range
+pub mod Members
+pub mod Extreme

@@ -1,0 +1,5 @@
+pub mod Children
+pub mod Built
+pub mod Universal
+pub mod Every
+pub mod Counts

@@ -1,0 +1,4 @@
+pub mod Tree
+pub mod Fit
+pub mod Built
+pub mod Count

@@ -1,0 +1,38 @@
+// The leaf counts of the built-in trees, and the operation that tells one.
+ghost use mathlib.Core.Path.{_≡_};
+ghost use Prim.Native.Nat.{_≤_};
+ghost use Rattle.trees.specs.Built.{leafCount};
+ghost use Rattle.trees.specs.Count.{answerOf, leafCountAnswer};
+use answers::Refusal;
+use table::LEAF_COUNTS;
+
+mod table;
+
+pub enum LeafCount {
+    Leaves(u64),
+    Refused(Refusal),
+}
+
+// L(n, h), looked up.
+fn leaf_count_at(n: usize, h: usize) -> u64
+    requires { ⌜ (n ≤ 64) × (h ≤ 8) ⌝ }
+    ensures { λ r. ⌜ r ≡ leafCount n h ⌝ }
+{
+    LEAF_COUNTS[h * 65 + n] as u64
+}
+
+// The number of leaves of the built-in tree of height h for n lines.
+pub fn leaf_count(n: usize, h: usize) -> LeafCount
+    ensures { λ r. ⌜ answerOf r ≡ leafCountAnswer n h ⌝ }
+{
+    if n == 0 {
+        return LeafCount::Refused(Refusal::Lines);
+    }
+    if 64 < n {
+        return LeafCount::Refused(Refusal::Lines);
+    }
+    if 8 < h {
+        return LeafCount::Refused(Refusal::Levels);
+    }
+    LeafCount::Leaves(leaf_count_at(n, h))
+}
