@@ -1,16 +1,15 @@
--- What the operations on a model turn down, in document 01's order, and what each of them answers and leaves in what was lent to it.
+-- What the operations on a model turn down, in document 01's order.
 -- Assumes nothing.
-use mathlib.Core.Bool.{Bool, true, false, cond, not, _||_}
+use mathlib.Core.Bool.{Bool, true, false, not, _||_}
 use mathlib.Core.List.{List, [], _∷_, _++_}
 use Prim.Native.Nat.{ℕ, zero, suc, _*_}
 use lib.Dec.{eqb, ltb}
-use lib.ListN.{length, drop}
-use Rattle.answers.specs.Answer.{Answer, refusal, numberOf}
-use Rattle.answers.specs.Check.{Check, _if_, firstOf, unless, outside}
+use lib.ListN.{length}
+use Rattle.answers.specs.Check.{Check, _if_, firstOf, outside}
 use Rattle.sets.specs.Set.{full, isWithin}
 use Rattle.model.specs.System.{System}
-use Rattle.model.specs.Query.{query, wordsOf}
-use Rattle.model.specs.File.{signsAt, kindsAt, wordsAt, fileLength, numberAt, linesIn, levelsIn, decode, encode}
+use Rattle.model.specs.Query.{wordsOf}
+use Rattle.model.specs.File.{signsAt, kindsAt, wordsAt, fileLength, numberAt, linesIn, levelsIn, decode}
 
 -- whether p holds of one of some numbers
 abbrev pub some : (ℕ → Bool) → List ℕ → Bool
@@ -26,6 +25,10 @@ someBelow (suc n) p = p n || someBelow n p
 abbrev pub strays : ℕ → ℕ → Bool
 strays n x = not (isWithin x (full n))
 
+-- a line without operands: none of its words selects one
+abbrev pub idle : System → ℕ → Bool
+idle m i = not (some (ltb 0) (wordsOf m i))
+
 -- 2 and 3: the counts
 abbrev pub countChecks : ℕ → ℕ → List Check
 countChecks n d = 2 if outside 64 n ∷ 3 if outside 8 d ∷ []
@@ -35,22 +38,55 @@ abbrev pub contentChecks : System → List Check
 contentChecks m =
     6 if (some (ltb 1) (m .signs) || some (ltb 1) (m .kinds)) ∷
     7 if some (strays (m .lines)) (m .words) ∷
-    8 if someBelow (m .lines) (λ i. not (some (ltb 0) (wordsOf m i))) ∷
+    8 if someBelow (m .lines) (idle m) ∷
     []
 
--- 1 to 5: too short for a header, the counts, a wrong offset, a wrong length
-abbrev pub headerChecks : List ℕ → List Check
-headerChecks file =
-    let n = linesIn file in
-    let d = levelsIn file in
-    1 if ltb (length file) 16 ∷
-    countChecks n d ++
-    (4 if not (eqb (numberAt file 4 4) signsAt) ∷
-    4 if not (eqb (numberAt file 8 4) (kindsAt d)) ∷
-    4 if not (eqb (numberAt file 12 4) (wordsAt n d)) ∷
-    5 if not (eqb (length file) (fileLength n d)) ∷
-    [])
+-- 4 and 5: a wrong offset, a wrong length
+abbrev pub layoutChecks : List ℕ → List Check
+layoutChecks file =
+    4 if not (eqb (numberAt file 4 4) signsAt) ∷
+    4 if not (eqb (numberAt file 8 4) (kindsAt (levelsIn file))) ∷
+    4 if not (eqb (numberAt file 12 4) (wordsAt (linesIn file) (levelsIn file))) ∷
+    5 if not (eqb (length file) (fileLength (linesIn file) (levelsIn file))) ∷
+    []
 
--- the number with which reading refuses a file for what it holds: 1 to 8, or 0
+-- 1 to 5: too short for a header, the counts, the layout
+abbrev pub headerChecks : List ℕ → List Check
+headerChecks file = 1 if ltb (length file) 16 ∷ (countChecks (linesIn file) (levelsIn file) ++ layoutChecks file)
+
+-- 1 to 8: what a file is turned down for, whatever it is to be used for
+abbrev pub fileChecks : List ℕ → List Check
+fileChecks file = headerChecks file ++ contentChecks (decode file)
+
+-- the number with which checking refuses, or 0
 unfoldable pub fileNumber : List ℕ → ℕ
-fileNumber file = firstOf (headerChecks file ++ contentChecks (decode file))
+fileNumber file = firstOf (fileChecks file)
+
+-- 12, for slices of these lengths that are to hold the signs, kinds and words of a file
+abbrev pub roomChecks : List ℕ → ℕ → ℕ → ℕ → List Check
+roomChecks file s k w = 12 if ltb s (levelsIn file) ∷ 12 if ltb k (linesIn file) ∷ 12 if ltb w (linesIn file * levelsIn file) ∷ []
+
+-- the number with which reading into slices of these lengths refuses, or 0
+unfoldable pub readNumber : List ℕ → ℕ → ℕ → ℕ → ℕ
+readNumber file s k w = firstOf (fileChecks file ++ roomChecks file s k w)
+
+-- 13, for the slices of a system
+abbrev pub sliceChecks : System → List Check
+sliceChecks m =
+    13 if not (eqb (length (m .signs)) (m .levels)) ∷
+    13 if not (eqb (length (m .kinds)) (m .lines)) ∷
+    13 if not (eqb (length (m .words)) (m .lines * m .levels)) ∷
+    []
+
+-- the number with which writing into a buffer of this length refuses, or 0
+unfoldable pub writeNumber : System → ℕ → ℕ
+writeNumber m room =
+    firstOf (countChecks (m .lines) (m .levels) ++ (sliceChecks m ++ (contentChecks m ++ (12 if ltb room (fileLength (m .lines) (m .levels)) ∷ []))))
+
+-- 13: not as many arguments as levels; 9: an argument with a line of n or more
+abbrev pub argumentChecks : List ℕ → List ℕ → List Check
+argumentChecks file xs = 13 if not (eqb (length xs) (levelsIn file)) ∷ 9 if some (strays (linesIn file)) xs ∷ []
+
+-- the number with which one query refuses, or 0
+unfoldable pub queryNumber : List ℕ → List ℕ → ℕ
+queryNumber file xs = firstOf (fileChecks file ++ argumentChecks file xs)

@@ -3,7 +3,7 @@
 use mathlib.Core.List.{List, [], _∷_, _++_}
 use Prim.Native.Nat.{ℕ, zero, suc, _+_, _*_, _/_, _%_}
 use lib.ListN.{take, drop}
-use Rattle.model.specs.System.{System}
+use Rattle.model.specs.System.{System, systemOf}
 
 -- The layout, for n lines and d levels: where the three sections begin, and the whole length.
 abbrev pub signsAt : ℕ
@@ -41,13 +41,7 @@ levelsIn file = numberAt file 2 2
 
 -- what a file with n lines and d levels stands for
 abbrev pub sections : ℕ → ℕ → List ℕ → System
-sections n d file = record {
-  lines = n;
-  levels = d;
-  signs = take d (drop signsAt file);
-  kinds = take n (drop (kindsAt d) file);
-  words = wordsFrom (n * d) (drop (wordsAt n d) file);
-}
+sections n d file = systemOf n d (take d (drop signsAt file)) (take n (drop (kindsAt d) file)) (wordsFrom (n * d) (drop (wordsAt n d) file))
 
 unfoldable pub decode : List ℕ → System
 decode file = sections (linesIn file) (levelsIn file) file

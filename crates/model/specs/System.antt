@@ -17,6 +17,9 @@ pub record System : Type 0 where
   -- line 0 first, within a line level 1 first; bit j of the word for level k says that line j, as valued at level k, is an operand
   pub words : List ℕ
 
+abbrev pub systemOf : ℕ → ℕ → List ℕ → List ℕ → List ℕ → System
+systemOf n d signs kinds words = record { lines = n; levels = d; signs = signs; kinds = kinds; words = words }
+
 -- whether level k + 1 is greatest
 abbrev pub sign : System → ℕ → Bool
 sign m k = eqb (getD (m .signs) k 0) 1

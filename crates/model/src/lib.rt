@@ -1,1 +1,17 @@
-// Definitions alone so far: the model and its query (specs/).
+// A model and its file: checking, reading, writing, and one query. Definitions: specs/.
+mod checker;
+mod evaluator;
+mod layout;
+mod number;
+mod reader;
+mod writer;
+
+pub use checker::check;
+pub use evaluator::Queried;
+pub use evaluator::evaluate;
+pub use evaluator::query;
+pub use layout::Model;
+pub use layout::Reading;
+pub use reader::read;
+pub use writer::Written;
+pub use writer::write;

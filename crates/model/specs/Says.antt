@@ -1,0 +1,66 @@
+-- What the operations on a model answer and leave in what was lent to them: their contracts.
+-- Assumes nothing.
+use mathlib.Core.List.{List, _++_}
+use mathlib.Core.Path.{_≡_}
+use Prim.Native.Nat.{ℕ, zero, suc}
+use lib.ListN.{length, drop}
+use Rattle.answers.specs.Answer.{Answer, refusal, numberOf}
+use Rattle.answers.specs.Check.{firstOf, unless}
+use Rattle.model.specs.System.{System}
+use Rattle.model.specs.Query.{query}
+use Rattle.model.specs.File.{fileLength, linesIn, levelsIn, decode, encode}
+use Rattle.model.specs.Checks.{fileNumber, readNumber, writeNumber, queryNumber}
+use Rattle.model.specs.declared.layout.Reading.{Reading}
+use Rattle.model.specs.declared.layout.Reading.the-variants as reading
+use Rattle.model.specs.declared.writer.Written.{Written}
+use Rattle.model.specs.declared.writer.Written.the-variants as written
+use Rattle.model.specs.declared.evaluator.Queried.{Queried}
+use Rattle.model.specs.declared.evaluator.Queried.the-variants as queried
+
+-- accepted with the two counts, with a length, with a set
+abbrev pub sized : ℕ → ℕ → Answer
+sized n d = record { number = 0; set = 0; count = 0; length = 0; lines = n; levels = d }
+
+abbrev pub made : ℕ → Answer
+made bytes = record { number = 0; set = 0; count = 0; length = bytes; lines = 0; levels = 0 }
+
+abbrev pub valued : ℕ → Answer
+valued set = record { number = 0; set = set; count = 0; length = 0; lines = 0; levels = 0 }
+
+-- the paper's answer of each case of the enums
+abbrev pub readingAnswer : Reading → Answer
+readingAnswer (reading.Accepted m) = sized (m .lines) (m .levels)
+readingAnswer (reading.Refused e) = refusal (numberOf e)
+
+abbrev pub writtenAnswer : Written → Answer
+writtenAnswer (written.Length bytes) = made bytes
+writtenAnswer (written.Refused e) = refusal (numberOf e)
+
+abbrev pub queriedAnswer : Queried → Answer
+queriedAnswer (queried.Set set) = valued set
+queriedAnswer (queried.Refused e) = refusal (numberOf e)
+
+-- what a lent list is left with: what was made in front of the entries beyond it, or on refusal the list as it was
+abbrev pub filled : ℕ → List ℕ → List ℕ → List ℕ
+filled zero new old = new ++ drop (length new) old
+filled (suc e) new old = old
+
+-- checking
+abbrev pub checkAnswer : List ℕ → Answer
+checkAnswer file = unless (fileNumber file) (sized (linesIn file) (levelsIn file))
+
+-- reading a file into three lists
+pub record ReadSays (file signs kinds words : List ℕ) (r : Reading) (signs′ kinds′ words′ : List ℕ) : Type 0 where
+  pub answer : readingAnswer r ≡ unless (readNumber file (length signs) (length kinds) (length words)) (sized (linesIn file) (levelsIn file))
+  pub signs-left : signs′ ≡ filled (readNumber file (length signs) (length kinds) (length words)) (decode file .signs) signs
+  pub kinds-left : kinds′ ≡ filled (readNumber file (length signs) (length kinds) (length words)) (decode file .kinds) kinds
+  pub words-left : words′ ≡ filled (readNumber file (length signs) (length kinds) (length words)) (decode file .words) words
+
+-- writing a system into a buffer
+pub record WriteSays (m : System) (buffer : List ℕ) (r : Written) (buffer′ : List ℕ) : Type 0 where
+  pub answer : writtenAnswer r ≡ unless (writeNumber m (length buffer)) (made (fileLength (m .lines) (m .levels)))
+  pub buffer-left : buffer′ ≡ filled (writeNumber m (length buffer)) (encode m) buffer
+
+-- one query of a file at the arguments xs
+abbrev pub queryAnswer : List ℕ → List ℕ → Answer
+queryAnswer file xs = unless (queryNumber file xs) (valued (query (decode file) xs))

@@ -1,0 +1,106 @@
+// One query of a model.
+ghost use mathlib.Core.Path.{_≡_};
+ghost use Prim.Native.Nat.{_+_, _*_, _≤_, _<_};
+ghost use lib.ListN.{length, take, drop, getD};
+ghost use Rattle.model.specs.Query as spec;
+ghost use Rattle.model.specs.File.{fileLength, kindsAt, wordsFrom, sections};
+ghost use Rattle.model.specs.Says.{queriedAnswer, queryAnswer};
+use super::checker::check;
+use super::layout::Model;
+use super::layout::Reading;
+use super::number::u64_at;
+use super::writer::one_strays;
+use answers::Refusal;
+
+// What one query answers.
+pub enum Queried {
+    Set(u64),
+    Refused(Refusal),
+}
+
+// The "or" of the operands that the d words from an offset on select. The first word with a set operand decides.
+fn any_operand(file: &[u8], at: usize, d: usize, xs: &[u64]) -> bool
+    requires { ⌜ (d ≤ 8) × (at + 8 * d ≤ length (now file)) ⌝ }
+    requires { ⌜ d ≤ length (now xs) ⌝ }
+    ensures { λ r. ⌜ r ≡ spec.any (spec.operands (wordsFrom d (drop at (now (file .entry)))) (take d (now (xs .entry)))) ⌝ }
+{
+    let mut k = 0;
+    while k < d {
+        if u64_at(file, at + 8 * k) & xs[k] != 0 {
+            return true;
+        }
+        k += 1;
+    }
+    false
+}
+
+// The "and" of the same. The first word with an operand that is not set decides.
+fn all_operands(file: &[u8], at: usize, d: usize, xs: &[u64]) -> bool
+    requires { ⌜ (d ≤ 8) × (at + 8 * d ≤ length (now file)) ⌝ }
+    requires { ⌜ d ≤ length (now xs) ⌝ }
+    ensures { λ r. ⌜ r ≡ spec.all (spec.operands (wordsFrom d (drop at (now (file .entry)))) (take d (now (xs .entry)))) ⌝ }
+{
+    let mut k = 0;
+    while k < d {
+        let w = u64_at(file, at + 8 * k);
+        if w & xs[k] != w {
+            return false;
+        }
+        k += 1;
+    }
+    true
+}
+
+// A line's value by its kind.
+fn line_value(file: &[u8], kind: u8, at: usize, d: usize, xs: &[u64]) -> bool
+    requires { ⌜ (d ≤ 8) × (at + 8 * d ≤ length (now file)) ⌝ }
+    requires { ⌜ d ≤ length (now xs) ⌝ }
+    ensures { λ r. ⌜ r ≡ spec.valueOf kind (spec.operands (wordsFrom d (drop at (now (file .entry)))) (take d (now (xs .entry)))) ⌝ }
+{
+    if kind == 0 {
+        any_operand(file, at, d, xs)
+    } else {
+        all_operands(file, at, d, xs)
+    }
+}
+
+// The query's set for a file of these counts, at the arguments in the first places of xs.
+pub fn evaluate(file: &[u8], m: Model, xs: &[u64]) -> u64
+    requires { ⌜ (m .lines ≤ 64) × (m .levels ≤ 8) ⌝ }
+    requires { ⌜ fileLength (m .lines) (m .levels) ≤ length (now file) ⌝ }
+    requires { ⌜ m .levels ≤ length (now xs) ⌝ }
+    ensures { λ r. ⌜ r ≡ spec.query (sections (m .lines) (m .levels) (now (file .entry))) (take (m .levels) (now (xs .entry))) ⌝ }
+{
+    let n = m.lines;
+    let d = m.levels;
+    let kinds_at = m.kinds_at();
+    let mut at = m.words_at();
+    let mut set: u64 = 0;
+    let mut i = 0;
+    while i < n {
+        if line_value(file, file[kinds_at + i], at, d, xs) {
+            set = set | (1u64 << i);
+        }
+        at += 8 * d;
+        i += 1;
+    }
+    set
+}
+
+// The set that one query of a file gives at the arguments xs, level 1 first.
+pub fn query(file: &[u8], xs: &[u64]) -> Queried
+    ensures { λ r. ⌜ queriedAnswer r ≡ queryAnswer (now (file .entry)) (now (xs .entry)) ⌝ }
+{
+    let counts = check(file);
+    let m = match counts {
+        Reading::Accepted(m) => m,
+        Reading::Refused(e) => return Queried::Refused(e),
+    };
+    if xs.len() != m.levels {
+        return Queried::Refused(Refusal::SliceLength);
+    }
+    if one_strays(xs, m.lines) {
+        return Queried::Refused(Refusal::Bounds);
+    }
+    Queried::Set(evaluate(file, m, xs))
+}
