@@ -2,9 +2,9 @@
 -- Assumes nothing.
 use mathlib.Core.Bool.{Bool, true, false, cond, _&&_, _||_}
 use mathlib.Core.List.{List, [], _∷_, _++_}
-use Prim.Native.Nat.{ℕ, zero, suc, _+_, _*_, _^_}
+use Prim.Native.Nat.{ℕ, zero, suc, _*_, _^_}
 use lib.ListN.{getD, take, drop}
-use Rattle.sets.specs.Set.{isMember}
+use Rattle.sets.specs.Set.{isMember, union}
 use Rattle.model.specs.System.{System}
 
 abbrev pub any : List Bool → Bool
@@ -38,7 +38,7 @@ wordsOf m i = take (m .levels) (drop (i * m .levels) (m .words))
 -- the set of those of the first n lines of which p holds
 unfoldable pub setOf : ℕ → (ℕ → Bool) → ℕ
 setOf zero p = 0
-setOf (suc n) p = cond (p n) (2 ^ n) 0 + setOf n p
+setOf (suc n) p = union (setOf n p) (cond (p n) (2 ^ n) 0)
 
 -- F
 unfoldable pub query : System → List ℕ → ℕ
