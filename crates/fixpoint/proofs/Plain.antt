@@ -19,6 +19,21 @@ pub record Tells {C : Type 0} (same : C → C → Bool) : Type 0 where
   pub sound : {x y : C} → same x y ≡ true → x ≡ y
   pub complete : (x : C) → same x x ≡ true
 
+-- a run makes at least one query
+then-positive : {C : Type 0} (t : Bool) (r u : Run C) → 1 ≤ r .queries → 1 ≤ then-rounds t r u .queries
+unfolding then-rounds
+then-positive true r u h = h
+then-positive false r u h = omega arith
+
+pub plain-positive : (𝓥 : Values) (same : 𝓥 .C → 𝓥 .C → Bool) (m : ℕ) (sign : ℕ → Bool) (f : List (𝓥 .C) → 𝓥 .C) (a b : 𝓥 .C) → 1 ≤ m
+    → (k : ℕ) (xs : List (𝓥 .C)) → 1 ≤ plain 𝓥 same m sign f a b k xs .queries
+unfolding plain settle
+plain-positive 𝓥 same zero sign f a b h k xs = absurd (omega arith)
+plain-positive 𝓥 same (suc m) sign f a b h zero xs = omega arith
+plain-positive 𝓥 same (suc m) sign f a b h (suc k) xs =
+    then-positive (same (plain 𝓥 same (suc m) sign f a b k (cond (sign k) b a ∷ xs) .value) (cond (sign k) b a)) (plain 𝓥 same (suc m) sign f a b k (cond (sign k) b a ∷ xs)) _
+    (plain-positive 𝓥 same (suc m) sign f a b h k (cond (sign k) b a ∷ xs))
+
 -- a value on the way up, with m rounds left, which are more than the rank has room for
 record Rising (𝓥 : Values) (g : 𝓥 .C → 𝓥 .C) (m : ℕ) (x : 𝓥 .C) : Type 0 where
   low : 𝓥 ._⊑_ (𝓥 .bot) x

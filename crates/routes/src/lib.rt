@@ -1,1 +1,11 @@
-// Definitions alone so far: what each route gives for a model (specs/).
+// The evaluators of the three routes, over a lent file and its two counts. Definitions: specs/.
+mod built_route;
+mod lent_route;
+mod plain_route;
+mod step;
+
+pub use built_route::built_level;
+pub use lent_route::lent_level;
+pub use plain_route::Outcome;
+pub use plain_route::plain_level;
+pub use step::Found;

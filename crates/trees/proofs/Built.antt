@@ -7,12 +7,8 @@ use Prim.Native.Nat.{ℕ, zero, suc, _+_, _/_, _≤_}
 use native.Mathlib.Nat.{le-refl}
 use native.Mathlib.Omega.{arith}
 use Rattle.trees.specs.Tree.{children, grow, leaves, IsTree, leaf}
-use Rattle.trees.specs.Built.{built-children, built, leafCount}
+use Rattle.trees.specs.Built.{built-children, built, kids, leafCount}
 use Rattle.trees.proofs.Children.{Trees, none, more, trees-append, total, total-append, Some, append-some, of-some, children-grow, grow-leaves, grow-tree}
-
--- the children of S(n, h + 1)
-abbrev pub kids : ℕ → ℕ → List (List ℕ)
-kids n h = built-children n (λ m. built m h) n
 
 module _ (below : ℕ → List ℕ) where
   no-children : (m : ℕ) → built-children m below zero ≡ []

@@ -17,6 +17,10 @@ unfoldable pub built : ℕ → ℕ → List ℕ
 built n zero = []
 built n (suc h) = grow (suc h) (built-children n (λ m. built m h) n)
 
+-- the children of S(n, h + 1); S(0, h + 1) has none
+abbrev pub kids : ℕ → ℕ → List (List ℕ)
+kids n h = built-children n (λ m. built m h) n
+
 -- L(n, h)
 unfoldable pub leafCount : ℕ → ℕ → ℕ
 leafCount zero h = 0

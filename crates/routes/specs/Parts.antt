@@ -1,0 +1,88 @@
+-- What the evaluators compute on the way: the definitions of Routes.antt with some levels left, for the model of a lent file.
+-- Assumes nothing.
+use mathlib.Core.Bool.{Bool, true, false}
+use mathlib.Core.List.{List, _∷_}
+use mathlib.Core.Path.{_≡_}
+use Prim.Native.Nat.{ℕ, _-_, _≤_}
+use lib.Dec.{eqb, leb}
+use lib.ListN.{length, take, drop}
+use Rattle.model.specs.System.{System, sign}
+use Rattle.model.specs.Query.{query}
+use Rattle.model.specs.File.{fileLength, sections}
+use Rattle.model.specs.declared.layout.Model.{Model}
+use Rattle.trees.specs.Tree.{IsTree}
+use Rattle.fixpoint.specs.Levels.{least-levels, greatest-levels}
+use Rattle.fixpoint.specs.Restricted.{restricted, restricted-queries, rise, fall, sum-over}
+use Rattle.fixpoint.specs.Plain.{Run, plain}
+use Rattle.fixpoint.specs.Sets.{sets}
+use Rattle.routes.specs.declared.step.Found.{Found}
+use Rattle.routes.specs.declared.plain_route.Outcome.{Outcome}
+use Rattle.routes.specs.declared.plain_route.Outcome.the-variants.{Settled, Spent}
+
+-- the file has as many lines and levels as its counts say
+pub record Held (file : List ℕ) (m : Model) : Type 0 where
+  pub few-lines : m .lines ≤ 64
+  pub few-levels : m .levels ≤ 8
+  pub whole : fileLength (m .lines) (m .levels) ≤ length file
+
+-- the system of a file
+abbrev pub systemIn : List ℕ → Model → System
+systemIn file m = sections (m .lines) (m .levels) file
+
+-- the arguments of the levels above level k, innermost first
+abbrev pub above : Model → ℕ → List ℕ → List ℕ
+above m k xs = drop k (take (m .levels) xs)
+
+-- the numbers of least and of greatest levels among the first k
+abbrev pub leastOf : System → ℕ → ℕ
+leastOf s k = least-levels (sign s) k
+
+abbrev pub greatestOf : System → ℕ → ℕ
+greatestOf s k = greatest-levels (sign s) k
+
+-- the plain rounds of the levels k, .., 1, with at most `rounds` rounds a level
+abbrev pub plainFrom : ℕ → System → ℕ → ℕ → ℕ → List ℕ → Run ℕ
+plainFrom rounds s a b k xs = plain (sets (s .lines)) eqb rounds (sign s) (query s) a b k xs
+
+-- the restricted set of the levels k, .., 1, and its queries
+abbrev pub restrictedFrom : System → ℕ → List ℕ → ℕ → ℕ → List ℕ → List ℕ → ℕ
+restrictedFrom s k xs a b u v = restricted (sets (s .lines)) (sign s) (query s) k xs a b u v
+
+abbrev pub queriesFrom : System → ℕ → List ℕ → List ℕ → ℕ
+queriesFrom s k u v = restricted-queries (sign s) k u v
+
+-- a run under a ceiling: its set with what is left of the ceiling, if the queries do not exceed it
+abbrev pub choose : Bool → Outcome → Outcome → Outcome
+choose true x y = x
+choose false x y = y
+
+abbrev pub under : ℕ → Run ℕ → Outcome
+under ceiling run = choose (leb (run .queries) ceiling) (Settled (run .value) (ceiling - run .queries)) Spent
+
+-- A least level over the children us of its tree, and a greatest level over the children vs of its own, with `below` levels below:
+-- its value and its queries (fixpoint's Restricted.antt).
+abbrev pub riseFrom : System → ℕ → List ℕ → ℕ → ℕ → List (List ℕ) → List ℕ → ℕ
+riseFrom s below xs a b us v = rise (λ c. restrictedFrom s below (c ∷ xs)) b v a us
+
+abbrev pub riseQueries : System → ℕ → List (List ℕ) → List ℕ → ℕ
+riseQueries s below us v = sum-over (λ w. queriesFrom s below w v) us
+
+abbrev pub fallFrom : System → ℕ → List ℕ → ℕ → ℕ → List ℕ → List (List ℕ) → ℕ
+fallFrom s below xs a b u vs = fall (λ c. restrictedFrom s below (c ∷ xs)) a u b vs
+
+abbrev pub fallQueries : System → ℕ → List ℕ → List (List ℕ) → ℕ
+fallQueries s below u vs = sum-over (λ w. queriesFrom s below u w) vs
+
+-- a set with its queries is this set with these
+pub record Gives (r : Found) (set count : ℕ) : Type 0 where
+  pub value : r .set ≡ set
+  pub queries : r .count ≡ count
+
+-- numbers of lines that a built-in tree may be asked for
+abbrev pub Sized : ℕ → Type 0
+Sized n = (1 ≤ n) × (n ≤ 64)
+
+-- gaps of a tree of height h, as many as may be lent
+pub record Lent (h : ℕ) (gaps : List ℕ) : Type 0 where
+  pub tree : IsTree h gaps
+  pub few : length gaps ≤ 1023
