@@ -1,8 +1,12 @@
 pub mod Little
 pub mod Sizes
-pub mod Masks
-pub mod Monotone
-pub mod Operands
 pub mod Below
 pub mod Codec
+pub mod Searches
 pub mod Lines
+pub mod Refusals
+pub mod Accepted
+pub mod Masks
+pub mod Operands
+pub mod LineValues
+pub mod Monotone

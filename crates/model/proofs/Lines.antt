@@ -1,50 +1,46 @@
--- One line of a file: its words and its kind stand at its own offsets, and its value is one step of the query.
+-- The sections of a file: a word by its place, a run of words within a longer one, and so the words of a line; signs beside kinds.
 -- Assumes nothing.
-use mathlib.Core.Bool.{Bool, true, false}
-use mathlib.Core.Path.{_≡_, _∙_, ap}
-use mathlib.Core.List.{List}
-use Prim.Native.Nat.{ℕ, _+_, _*_, _%_, _^_, _≤_, _<_}
-use native.Mathlib.Nat.{suc-mul, one-mul, mul-le-mul-right, mod-eq-of-lt}
-use native.Mathlib.Numerals.{add-one}
+use mathlib.Core.Bool.{Bool, _||_}
+use mathlib.Core.List.{List, _++_}
+use mathlib.Core.Path.{_≡_, refl, _∙_, ap}
+use Prim.Native.Nat.{ℕ, zero, suc, _+_, _*_, _-_, _≤_, _<_}
+use native.Mathlib.Nat.{zero-add, suc-add, le-of-suc-le-suc}
 use native.Mathlib.Omega.{arith}
-use lib.Bits.{or-zero-r}
-use lib.ListN.{drop, getD}
-use lib.Pow.{pow-lt}
-use lib.Seq.{drop-drop, getD-take, getD-drop}
-use Rattle.sets.specs.Set.{union}
-use Rattle.model.specs.Query.{valueOf, operands, wordsOf, setOf}
-use Rattle.model.specs.File.{kindsAt, wordsAt, wordsFrom, sections}
-use Rattle.model.proofs.Codec.{words-part}
+use lib.ListN.{length, getD, take, drop}
+use lib.Seq.{take-add, drop-drop, take-at, drop-at}
+use Rattle.model.specs.Query.{wordsOf}
+use Rattle.model.specs.File.{numberAt, signsAt, wordsAt, wordsFrom, sections}
+use Rattle.model.specs.Checks.{some, someBelow}
+use Rattle.model.proofs.Codec.{words-length, words-part}
+use Rattle.model.proofs.Sizes.{line-fits}
+use Rattle.model.proofs.Searches.{some-index, some-append, below-same}
 
--- a line's words end within all the words
-pub line-fits : (n d i : ℕ) → i < n → i * d + d ≤ n * d
-line-fits n d i h = omega (arith, mul-le-mul-right d h, suc-mul i d)
+-- a word is the eight bytes at its place
+pub word-at : (k : ℕ) (bs : List ℕ) (i : ℕ) → i < k → getD (wordsFrom k bs) i 0 ≡ numberAt bs (8 * i) 8
+unfolding wordsFrom
+word-at zero bs i h = absurd (omega arith)
+word-at (suc k) bs zero h = refl
+word-at (suc k) bs (suc i) h =
+    let next : 8 + 8 * i ≡ 8 * suc i = omega arith in
+    word-at k (drop 8 bs) i (le-of-suc-le-suc h) ∙ rw (drop-drop (8 * i) 8 bs, next)
 
-pub line-words : (n d : ℕ) (file : List ℕ) (i : ℕ) → i < n → wordsOf (sections n d file) i ≡ wordsFrom d (drop (wordsAt n d + 8 * (i * d)) file)
-line-words n d file i h =
-    words-part (n * d) (i * d) d (drop (wordsAt n d) file) (line-fits n d i h) ∙ ap (wordsFrom d) (drop-drop (8 * (i * d)) (wordsAt n d) file)
+pub words-of : (n d : ℕ) (file : List ℕ) (i : ℕ) → i < n
+    → wordsOf (sections n d file) i ≡ wordsFrom d (drop (wordsAt n d + 8 * (i * d)) file)
+words-of n d file i h =
+    words-part (n * d) (i * d) d (drop (wordsAt n d) file) (line-fits d h)
+    ∙ ap (wordsFrom d) (drop-drop (8 * (i * d)) (wordsAt n d) file)
 
--- a line's kind is the byte at its own offset
-pub line-kind : (n d : ℕ) (file : List ℕ) (i : ℕ) → i < n → getD (sections n d file .kinds) i 0 ≡ getD file (kindsAt d + i) 0
-line-kind n d file i h = getD-take n (drop (kindsAt d) file) i 0 h ∙ getD-drop (kindsAt d) file i 0
+-- a search over the words at an offset goes by their places
+pub some-words : (p : ℕ → Bool) (k : ℕ) (file : List ℕ) (at : ℕ)
+    → some p (wordsFrom k (drop at file)) ≡ someBelow k (λ i. p (numberAt file (at + 8 * i) 8))
+some-words p k file at =
+    some-index p (wordsFrom k (drop at file))
+    ∙ ap (λ (n : ℕ). someBelow n (λ i. p (getD (wordsFrom k (drop at file)) i 0))) (words-length k (drop at file))
+    ∙ below-same _ _ k (λ i l. ap p (word-at k (drop at file) i l ∙ rw (drop-drop (8 * i) at file)))
 
--- the value of a line of a file
-abbrev pub lineValue : ℕ → ℕ → List ℕ → List ℕ → ℕ → Bool
-lineValue n d file xs i = valueOf (getD (sections n d file .kinds) i 0) (operands (wordsOf (sections n d file) i) xs)
-
-pub line-value : (n d : ℕ) (file xs : List ℕ) (i : ℕ) → i < n
-    → valueOf (getD file (kindsAt d + i) 0) (operands (wordsFrom d (drop (wordsAt n d + 8 * (i * d)) file)) xs) ≡ lineValue n d file xs i
-line-value n d file xs i h = rw (line-kind n d file i h, line-words n d file i h)
-
--- the set of the lines passed, with one line more
-pub set-more : (p : ℕ → Bool) (i : ℕ) → p i ≡ true → union (setOf i p) (2 ^ i) ≡ setOf (i + 1) p
-unfolding setOf
-set-more p i e = rw (add-one i, e)
-
-pub set-same : (p : ℕ → Bool) (i : ℕ) → p i ≡ false → setOf i p ≡ setOf (i + 1) p
-unfolding setOf
-set-same p i e = rw (add-one i, e, or-zero-r)
-
--- the word of one line
-pub one-shifted : (i : ℕ) → i < 64 → 1 * 2 ^ i % 2 ^ 64 ≡ 2 ^ i
-one-shifted i h = ap (λ (x : ℕ). x % 2 ^ 64) (one-mul (2 ^ i)) ∙ mod-eq-of-lt (pow-lt h)
+-- the signs and the kinds stand side by side
+pub some-bytes : (p : ℕ → Bool) (n d : ℕ) (file : List ℕ)
+    → some p (take (d + n) (drop signsAt file)) ≡ some p (sections n d file .signs) || some p (sections n d file .kinds)
+some-bytes p n d file =
+    rw (take-add d n (drop signsAt file), drop-drop d signsAt file)
+    (some-append p (sections n d file .signs) (sections n d file .kinds))

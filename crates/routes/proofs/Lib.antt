@@ -1,2 +1,3 @@
 pub mod Places
 pub mod Rounds
+pub mod Promises

@@ -5,6 +5,7 @@ use Prim.Native.Nat.{ℕ, suc}
 use lib.Dec.{eqb}
 use Rattle.model.specs.System.{System, sign}
 use Rattle.model.specs.Query.{query}
+use Rattle.trees.specs.Built.{built}
 use Rattle.fixpoint.specs.Levels.{least-levels, greatest-levels}
 use Rattle.fixpoint.specs.Nested.{nested}
 use Rattle.fixpoint.specs.Restricted.{restricted, restricted-queries}
@@ -17,6 +18,13 @@ leastLevels m = least-levels (sign m) (m .levels)
 
 abbrev pub greatestLevels : System → ℕ
 greatestLevels m = greatest-levels (sign m) (m .levels)
+
+-- the built-in trees for p lines of the least levels' height and for q lines of the greatest levels'
+abbrev pub builtLeast : System → ℕ → List ℕ
+builtLeast s p = built p (leastLevels s)
+
+abbrev pub builtGreatest : System → ℕ → List ℕ
+builtGreatest s q = built q (greatestLevels s)
 
 -- the nested fixpoint
 abbrev pub nestedSet : System → ℕ → ℕ → ℕ

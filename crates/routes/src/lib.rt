@@ -9,3 +9,4 @@ pub use lent_route::lent_level;
 pub use plain_route::Outcome;
 pub use plain_route::plain_level;
 pub use step::Found;
+pub use step::is_greatest;

@@ -15,7 +15,7 @@ pub struct Found {
 }
 
 // Whether level k + 1 is greatest.
-pub(crate) fn is_greatest(file: &[u8], m: Model, k: usize) -> bool
+pub fn is_greatest(file: &[u8], m: Model, k: usize) -> bool
     requires { ⌜ Held (now file) m ⌝ }
     requires { ⌜ k < m .levels ⌝ }
     ensures { λ r. ⌜ r ≡ sign (systemIn (now (file .entry)) m) k ⌝ }

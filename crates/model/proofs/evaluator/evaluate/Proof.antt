@@ -13,7 +13,8 @@ use lib.ListN.{take, drop, getD}
 use Rattle.sets.specs.Set.{union}
 use Rattle.model.specs.Query.{valueOf, operands, setOf, query}
 use Rattle.model.specs.File.{kindsAt, wordsAt, wordsFrom}
-use Rattle.model.proofs.Lines.{lineValue, line-value, line-fits, set-more, set-same, one-shifted}
+use Rattle.model.proofs.LineValues.{lineValue, line-value, set-more, set-same, one-shifted}
+use Rattle.model.proofs.Sizes.{line-fits}
 use borrow.Author.Needs.{needs}
 use Rattle.model.proofs.evaluator.evaluate.Statement.{statement}
 use Rattle.model.proofs.evaluator.evaluate.Tie as tie
@@ -68,7 +69,7 @@ shared-slice-read-line-value c = search needs
 line-value-requires : tie.Need-line-value-requires Inv-loop μ-loop
 line-value-requires c κs =
     let start = c .before .before .before .before .before .before .before in
-    let fits = line-fits (start .args .m .lines) (start .args .m .levels) (c .before .before .loop .i) (c .before .loop-test .taken) in
+    let fits = line-fits (start .args .m .levels) (c .before .loop-test .taken) in
     omega arith
 
 shl-set : tie.Need-shl-set Inv-loop μ-loop
@@ -80,7 +81,7 @@ mul-at c = omega (arith, c .before .before .before .before .before .before .befo
 add-at : tie.Need-add-at Inv-loop μ-loop
 add-at c =
     let start = c .before .before .before .before .before .before .before .before .before in
-    let fits = line-fits (start .args .m .lines) (start .args .m .levels) (c .before .before .before .before .loop .i) (c .before .before .before .loop-test .taken) in
+    let fits = line-fits (start .args .m .levels) (c .before .before .before .loop-test .taken) in
     omega (arith, start .pre, start .good)
 
 add-i : tie.Need-add-i Inv-loop μ-loop

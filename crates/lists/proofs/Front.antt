@@ -1,0 +1,55 @@
+-- Filling a list from the front: what is written so far stands in front of what the list still holds behind it.
+-- Assumes nothing.
+use mathlib.Core.List.{List, [], _∷_, _++_, append-assoc, append-nil}
+use mathlib.Core.Path.{_≡_, sym, _∙_, ap, ap₂}
+use Prim.Native.Nat.{ℕ, suc, _+_, _-_, _<_}
+use native.Mathlib.Numerals.{add-one}
+use native.Mathlib.Omega.{arith}
+use lib.ListN.{length, getD, set, take, drop, length-drop, drop-of-length-le}
+use lib.Seq.{drop-cons, set-at, append-snoc, take-all, take-suc, take-length, take-at, drop-at, drop-drop, length-take-le}
+use borrow.Rule.Slice.PartMut.{midOf, putMid}
+
+-- one more entry is stored; s is what the list held, l what it holds now
+pub front-store : (front s l : List ℕ) (i v : ℕ) → length front ≡ i → i < length s → l ≡ front ++ drop i s → set l i v ≡ (front ++ (v ∷ [])) ++ drop (i + 1) s
+front-store front s l i v e h held =
+    ap (λ (r : List ℕ). set r i v) held
+    ∙ ap (λ (r : List ℕ). set (front ++ r) i v) (drop-cons s i 0 h)
+    ∙ set-at front _ _ v i e
+    ∙ sym (append-snoc front v (drop (suc i) s))
+    ∙ rw add-one
+
+-- all that is left of a list from a on
+pub rest-whole : (l : List ℕ) (a : ℕ) → take (length l - a) (drop a l) ≡ drop a l
+rest-whole l a = take-all (length l - a) (drop a l) (omega (arith, length-drop a l))
+
+-- the rest of the list, from a on, is lent, and comes back with n entries written in front, up to b
+pub front-part :
+    (front new s l part : List ℕ) (a n b : ℕ) → length front ≡ a → a + n ≡ b → l ≡ front ++ drop a s → part ≡ new ++ drop n (midOf a (length l - a) l)
+    → putMid a (length l - a) l part ≡ (front ++ new) ++ drop b s
+front-part front new s l part a n b e next held wrote =
+    let rest : drop a l ≡ drop a s = ap (drop a) held ∙ drop-at front (drop a s) a e in
+    let nothing : drop (length l - a) (drop a l) ≡ [] = drop-of-length-le (drop a l) {i = length l - a} (omega (arith, length-drop a l)) in
+    ap₂ _++_ (ap (take a) held ∙ take-at front (drop a s) a e)
+    (ap₂ _++_ (wrote ∙ ap (λ (r : List ℕ). new ++ drop n r) (rest-whole l a ∙ rest)) nothing
+    ∙ append-nil (new ++ drop n (drop a s)) ∙ ap (λ (r : List ℕ). new ++ r) (drop-drop n a s ∙ ap (λ (j : ℕ). drop j s) next))
+    ∙ sym (append-assoc front new (drop b s))
+
+-- all of src in front, as a copy says it
+pub all-copied : (src rest l : List ℕ) → l ≡ take (length src) src ++ rest → l ≡ src ++ rest
+all-copied src rest l copied = copied ∙ ap (λ (r : List ℕ). r ++ rest) (take-length src)
+
+-- n entries of src, from a, which is b, up to e, in front of what dst holds behind them
+pub part-copied :
+    (src dst l : List ℕ) (a b e n : ℕ) → a ≡ b → e ≡ a + n
+    → l ≡ take (length (take (e - a) (drop a src))) (take (e - a) (drop a src)) ++ drop (length (take (e - a) (drop a src))) dst
+    → l ≡ take n (drop b src) ++ drop (length (take n (drop b src))) dst
+part-copied src dst l a b e n begin end copied =
+    let count : e - a ≡ n = omega arith in
+    all-copied (take (e - a) (drop a src)) _ l copied
+    ∙ ap₂ (λ (i j : ℕ). take i (drop j src) ++ drop (length (take i (drop j src))) dst) count begin
+
+-- filling a list from the back: one more entry is stored in front of what is written so far
+pub back-store : (s l rest : List ℕ) (i v : ℕ) → i < length s → l ≡ take (suc i) s ++ rest → set l i v ≡ take i s ++ v ∷ rest
+back-store s l rest i v h held =
+    ap (λ (r : List ℕ). set r i v) (held ∙ ap (λ (r : List ℕ). r ++ rest) (take-suc s i 0 h) ∙ append-snoc (take i s) (getD s i 0) rest)
+    ∙ set-at (take i s) (getD s i 0) rest v i (length-take-le i s (omega arith))

@@ -1,0 +1,81 @@
+-- The text that the judging program writes for an input (document 01, "The judging program").
+-- Assumes nothing.
+use mathlib.Core.Bool.{cond}
+use mathlib.Core.List.{List, [], _∷_, _++_}
+use mathlib.Core.Path.{_≡_}
+use Prim.Native.Nat.{ℕ, zero, suc}
+use lib.Dec.{ltb}
+use lib.ListN.{length}
+use Rattle.answers.specs.Answer.{numberOf}
+use Rattle.sets.specs.Set.{full, members}
+use Rattle.fixpoint.specs.Plain.{Run}
+use Rattle.model.specs.System.{System}
+use Rattle.model.specs.File.{linesIn, decode}
+use Rattle.model.specs.Checks.{fileNumber}
+use Rattle.routes.specs.Routes.{builtLeast, builtGreatest, plainRun, restrictedSet, restrictedCount}
+use Rattle.solver.specs.Checks.{plainNumber}
+use Rattle.solver.specs.declared.Judged.{Judged}
+use Rattle.solver.specs.declared.Judged.the-variants.{Found, Refused}
+use Rattle.text.specs.Text.{hex, decimal, shareOf, pasted}
+
+-- the words of the output, in ASCII, each with a blank behind it
+abbrev pub plainWord : List ℕ
+plainWord = 112 ∷ 108 ∷ 97 ∷ 105 ∷ 110 ∷ 32 ∷ []
+
+abbrev pub treeWord : List ℕ
+treeWord = 116 ∷ 114 ∷ 101 ∷ 101 ∷ 32 ∷ []
+
+abbrev pub shareWord : List ℕ
+shareWord = 115 ∷ 104 ∷ 97 ∷ 114 ∷ 101 ∷ 32 ∷ []
+
+abbrev pub refusedWord : List ℕ
+refusedWord = 114 ∷ 101 ∷ 102 ∷ 117 ∷ 115 ∷ 101 ∷ 100 ∷ 32 ∷ []
+
+-- `refused`, a blank and the number
+abbrev pub refusedLine : ℕ → List ℕ
+refusedLine e = refusedWord ++ (decimal e ++ (10 ∷ []))
+
+-- the set as 16 hexadecimal digits, a blank and the decimal count
+abbrev pub foundLine : ℕ → ℕ → List ℕ
+foundLine set count = hex set ++ (32 ∷ (decimal count ++ (10 ∷ [])))
+
+-- what follows the word of a route, and the line of the share in n lines
+abbrev pub judgedLine : Judged → List ℕ
+judgedLine (Found set count) = foundLine set count
+judgedLine (Refused e) = refusedLine (numberOf e)
+
+abbrev pub shareOfSet : ℕ → ℕ → List ℕ
+shareOfSet set n = shareWord ++ (decimal (shareOf (members set) n) ++ (10 ∷ []))
+
+abbrev pub shareLine : Judged → ℕ → List ℕ
+shareLine (Found set count) n = shareOfSet set n
+shareLine (Refused e) n = shareOfSet 0 n
+
+-- by the number with which judging refuses, or 0
+abbrev pub foundOrRefused : ℕ → ℕ → ℕ → List ℕ
+foundOrRefused zero set count = foundLine set count
+foundOrRefused (suc e) set count = refusedLine (suc e)
+
+-- the three lines for a file: both judgings from no line to all, plainly under a ceiling of 1,000,000
+abbrev pub threeLines : List ℕ → List ℕ
+threeLines file =
+    let s = decode file in
+    let all = full (s .lines) in
+    let run = plainRun s 0 all in
+    let tree = restrictedSet s 0 all (builtLeast s (s .lines)) (builtGreatest s (s .lines)) in
+    let count = restrictedCount s (builtLeast s (s .lines)) (builtGreatest s (s .lines)) in
+    plainWord ++ (foundOrRefused (plainNumber file 0 all 1000000) (run .value) (run .queries)
+    ++ (treeWord ++ (foundLine tree count
+    ++ shareOfSet tree (s .lines))))
+
+abbrev pub linesOrRefused : ℕ → List ℕ → List ℕ
+linesOrRefused zero file = threeLines file
+linesOrRefused (suc e) file = refusedLine (suc e)
+
+unfoldable pub reportText : List ℕ → List ℕ
+reportText file = linesOrRefused (fileNumber file) file
+
+-- making the text in a lent buffer: its length and what the buffer is left with; a buffer under 128 bytes is left as it was
+pub record ReportSays (file out : List ℕ) (r : ℕ) (out′ : List ℕ) : Type 0 where
+  pub length-made : r ≡ cond (ltb (length out) 128) 0 (length (reportText file))
+  pub out-left : out′ ≡ cond (ltb (length out) 128) out (pasted 0 (reportText file) out)

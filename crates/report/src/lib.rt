@@ -1,0 +1,84 @@
+// The judging program's text for an input. Definitions: specs/.
+ghost use mathlib.Core.Path.{_≡_};
+ghost use Prim.Native.Nat.{_+_, _≤_};
+ghost use lib.ListN.{length};
+ghost use Rattle.answers.specs.Answer.{numberOf};
+ghost use Rattle.text.specs.Text.{pasted};
+ghost use Rattle.report.specs.Report.{refusedLine, foundLine, judgedLine, shareLine, ReportSays};
+use answers::Refusal;
+use model::Reading;
+use solver::Judged;
+use text::put;
+use text::put_decimal;
+use text::put_hex;
+
+// The text of any input fits in so many bytes.
+pub const REPORT_SIZE: usize = 128;
+
+// A refusal's line.
+fn put_refused(out: &mut [u8], at: usize, e: Refusal) -> usize
+    requires { ⌜ at + 29 ≤ length (now out) ⌝ }
+    ensures { λ r. ⌜ (r ≡ at + length (refusedLine (numberOf e))) × (now (out .exit) ≡ pasted at (refusedLine (numberOf e)) (now (out .entry))) ⌝ }
+{
+    let word = put(out, at, b"refused ");
+    let number = put_decimal(out, word, answers::number(e));
+    put(out, number, b"\n")
+}
+
+// The rest of a line for a set and its count.
+fn put_found(out: &mut [u8], at: usize, set: u64, count: u64) -> usize
+    requires { ⌜ at + 38 ≤ length (now out) ⌝ }
+    ensures { λ r. ⌜ (r ≡ at + length (foundLine set count)) × (now (out .exit) ≡ pasted at (foundLine set count) (now (out .entry))) ⌝ }
+{
+    let digits = put_hex(out, at, set);
+    let blank = put(out, digits, b" ");
+    let number = put_decimal(out, blank, count);
+    put(out, number, b"\n")
+}
+
+// The rest of a line for a judgement.
+fn put_judged(out: &mut [u8], at: usize, j: Judged) -> usize
+    requires { ⌜ at + 38 ≤ length (now out) ⌝ }
+    ensures { λ r. ⌜ (r ≡ at + length (judgedLine j)) × (now (out .exit) ≡ pasted at (judgedLine j) (now (out .entry))) ⌝ }
+{
+    match j {
+        Judged::Found { set, count } => put_found(out, at, set, count),
+        Judged::Refused(e) => put_refused(out, at, e),
+    }
+}
+
+// The share's line for a judgement of n lines.
+fn put_share(out: &mut [u8], at: usize, j: Judged, n: usize) -> usize
+    requires { ⌜ (at + 38 ≤ length (now out)) × (n ≤ 64) ⌝ }
+    ensures { λ r. ⌜ (r ≡ at + length (shareLine j n)) × (now (out .exit) ≡ pasted at (shareLine j n) (now (out .entry))) ⌝ }
+{
+    let set = match j {
+        Judged::Found { set, count: _ } => set,
+        Judged::Refused(_) => 0,
+    };
+    let word = put(out, at, b"share ");
+    let number = put_decimal(out, word, text::share(sets::member_count(set), n as u32));
+    put(out, number, b"\n")
+}
+
+// Puts the text for an input into a buffer of at least REPORT_SIZE bytes, keeps the bytes behind it, and answers its length;
+// in a shorter buffer, nothing.
+pub fn report(file: &[u8], out: &mut [u8]) -> usize
+    ensures { λ r. ⌜ ReportSays (now (file .entry)) (now (out .entry)) r (now (out .exit)) ⌝ }
+{
+    if out.len() < REPORT_SIZE {
+        return 0;
+    }
+    let counts = model::check(file);
+    let m = match counts {
+        Reading::Accepted(m) => m,
+        Reading::Refused(e) => return put_refused(out, 0, e),
+    };
+    let all = sets::full_set(m.lines);
+    let plain = put(out, 0, b"plain ");
+    let plain_end = put_judged(out, plain, solver::solve_plain(file, 0, all, 1000000));
+    let judged = solver::solve_built(file, 0, all);
+    let tree = put(out, plain_end, b"tree ");
+    let tree_end = put_judged(out, tree, judged);
+    put_share(out, tree_end, judged, m.lines)
+}

@@ -1,0 +1,134 @@
+// The operations for C and Rust to call: each fills six words with its answer (include/solver.h).
+ghost use mathlib.Core.Path.{_≡_};
+ghost use lib.ListN.{length};
+ghost use Rattle.answers.specs.Answer.{counted, refusal, numberOf};
+ghost use Rattle.trees.specs.Count.{leafCountAnswer};
+ghost use Rattle.model.specs.System.{systemOf};
+ghost use Rattle.model.specs.File.{decode, encode};
+ghost use Rattle.model.specs.Checks.{readNumber, writeNumber};
+ghost use Rattle.model.specs.Says.{filled, readAnswer, writeAnswer, queryAnswer, sized, made, valued};
+ghost use Rattle.solver.specs.Says.{plainAnswer, builtAnswer, lentAnswer, judged, judgedAnswer};
+ghost use Rattle.solver_c.specs.Words.{sixWords};
+use answers::Refusal;
+use model::Queried;
+use model::Reading;
+use model::Written;
+use solver::Judged;
+use trees::LeafCount;
+
+fn put_refused(answer: &mut [u64; 6], e: Refusal)
+    ensures { λ _. ⌜ now (answer .exit) ≡ sixWords (refusal (numberOf e)) ⌝ }
+{
+    *answer = [answers::number(e), 0, 0, 0, 0, 0];
+}
+
+fn put_judged(answer: &mut [u64; 6], j: Judged)
+    ensures { λ _. ⌜ now (answer .exit) ≡ sixWords (judgedAnswer j) ⌝ }
+{
+    match j {
+        Judged::Found { set, count } => {
+            *answer = [0, set, count, 0, 0, 0];
+        }
+        Judged::Refused(e) => put_refused(answer, e),
+    }
+}
+
+#[no_mangle]
+pub extern "C" fn solver_read(
+    file: &[u8],
+    signs: &mut [u8],
+    kinds: &mut [u8],
+    words: &mut [u64],
+    answer: &mut [u64; 6],
+)
+    ensures { λ _. ⌜ now (answer .exit) ≡ sixWords (readAnswer (now (file .entry)) (length (now (signs .entry))) (length (now (kinds .entry))) (length (now (words .entry)))) ⌝ }
+    ensures { λ _. ⌜ now (signs .exit) ≡ filled (readNumber (now (file .entry)) (length (now (signs .entry))) (length (now (kinds .entry))) (length (now (words .entry)))) (decode (now (file .entry)) .signs) (now (signs .entry)) ⌝ }
+    ensures { λ _. ⌜ now (kinds .exit) ≡ filled (readNumber (now (file .entry)) (length (now (signs .entry))) (length (now (kinds .entry))) (length (now (words .entry)))) (decode (now (file .entry)) .kinds) (now (kinds .entry)) ⌝ }
+    ensures { λ _. ⌜ now (words .exit) ≡ filled (readNumber (now (file .entry)) (length (now (signs .entry))) (length (now (kinds .entry))) (length (now (words .entry)))) (decode (now (file .entry)) .words) (now (words .entry)) ⌝ }
+{
+    let r = model::read(file, signs, kinds, words);
+    match r {
+        Reading::Accepted(m) => {
+            let n = m.lines as u64;
+            let d = m.levels as u64;
+            *answer = [0, 0, 0, 0, n, d];
+        }
+        Reading::Refused(e) => put_refused(answer, e),
+    }
+}
+
+#[no_mangle]
+pub extern "C" fn solver_write(
+    n: usize,
+    d: usize,
+    signs: &[u8],
+    kinds: &[u8],
+    words: &[u64],
+    buffer: &mut [u8],
+    answer: &mut [u64; 6],
+)
+    ensures { λ _. ⌜ now (answer .exit) ≡ sixWords (writeAnswer (systemOf n d (now (signs .entry)) (now (kinds .entry)) (now (words .entry))) (length (now (buffer .entry)))) ⌝ }
+    ensures { λ _. ⌜ now (buffer .exit) ≡ filled (writeNumber (systemOf n d (now (signs .entry)) (now (kinds .entry)) (now (words .entry))) (length (now (buffer .entry)))) (encode (systemOf n d (now (signs .entry)) (now (kinds .entry)) (now (words .entry)))) (now (buffer .entry)) ⌝ }
+{
+    let r = model::write(n, d, signs, kinds, words, buffer);
+    match r {
+        Written::Length(bytes) => {
+            *answer = [0, 0, 0, bytes as u64, 0, 0];
+        }
+        Written::Refused(e) => put_refused(answer, e),
+    }
+}
+
+#[no_mangle]
+pub extern "C" fn solver_query(file: &[u8], arguments: &[u64], answer: &mut [u64; 6])
+    ensures { λ _. ⌜ now (answer .exit) ≡ sixWords (queryAnswer (now (file .entry)) (now (arguments .entry))) ⌝ }
+{
+    let r = model::query(file, arguments);
+    match r {
+        Queried::Set(set) => {
+            *answer = [0, set, 0, 0, 0, 0];
+        }
+        Queried::Refused(e) => put_refused(answer, e),
+    }
+}
+
+#[no_mangle]
+pub extern "C" fn solver_plain(file: &[u8], a: u64, b: u64, ceiling: u64, answer: &mut [u64; 6])
+    ensures { λ _. ⌜ now (answer .exit) ≡ sixWords (plainAnswer (now (file .entry)) a b ceiling) ⌝ }
+{
+    put_judged(answer, solver::solve_plain(file, a, b, ceiling));
+}
+
+#[no_mangle]
+pub extern "C" fn solver_built(file: &[u8], a: u64, b: u64, answer: &mut [u64; 6])
+    ensures { λ _. ⌜ now (answer .exit) ≡ sixWords (builtAnswer (now (file .entry)) a b) ⌝ }
+{
+    put_judged(answer, solver::solve_built(file, a, b));
+}
+
+#[no_mangle]
+pub extern "C" fn solver_lent(
+    file: &[u8],
+    a: u64,
+    b: u64,
+    u: &[u8],
+    v: &[u8],
+    answer: &mut [u64; 6],
+)
+    ensures { λ _. ⌜ now (answer .exit) ≡ sixWords (lentAnswer (now (file .entry)) a b (now (u .entry)) (now (v .entry))) ⌝ }
+{
+    put_judged(answer, solver::solve_lent(file, a, b, u, v));
+}
+
+#[no_mangle]
+pub extern "C" fn solver_leaf_count(n: usize, h: usize, answer: &mut [u64; 6])
+    ensures { λ _. ⌜ now (answer .exit) ≡ sixWords (leafCountAnswer n h) ⌝ }
+{
+    let r = trees::leaf_count(n, h);
+    match r {
+        LeafCount::Leaves(count) => {
+            *answer = [0, 0, count, 0, 0, 0];
+        }
+        LeafCount::Refused(e) => put_refused(answer, e),
+    }
+}

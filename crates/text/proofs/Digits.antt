@@ -1,0 +1,81 @@
+-- Digits: as many as are asked for, put from the last to the first; and texts put one behind the other are one text.
+-- Assumes nothing.
+use mathlib.Core.List.{List, [], _∷_, _++_, append-nil, append-assoc}
+use mathlib.Core.Path.{_≡_, refl, sym, _∙_, ap, ap₂}
+use Prim.Native.Nat.{ℕ, zero, suc, _+_, _/_, _%_, _≤_}
+use native.Mathlib.Nat.{add-zero}
+use native.Mathlib.Omega.{arith}
+use lib.ListN.{length, set, take, drop, length-append, length-drop, length-set, take-append-drop}
+use lib.Seq.{length-take-le, take-at, drop-append-add, drop-drop}
+use Rattle.lists.proofs.Front.{back-store}
+use Rattle.text.specs.Text.{digit, digits, pasted}
+
+pub digits-length : (base k x : ℕ) → length (digits base k x) ≡ k
+unfolding digits
+digits-length base zero x = refl
+digits-length base (suc k) x = omega (arith, length-append (digits base k (x / base)) (digit (x % base) ∷ []), digits-length base k (x / base))
+
+module _ (at : ℕ) (s l : List ℕ) (h : at ≤ length l) where
+  -- what stands in front of the rest once s is put
+  front : List ℕ
+  front = take at l ++ s
+
+  front-length : length front ≡ at + length s
+  unfolding front
+  front-length = omega (arith, length-append (take at l) s, length-take-le at l h)
+
+  pasted-front : pasted at s l ≡ front ++ drop (at + length s) l
+  unfolding front
+  pasted-front = sym (append-assoc (take at l) s (drop (at + length s) l))
+
+  -- a text, and behind it another
+  pub pasted-twice : (t : List ℕ) → pasted (at + length s) t (pasted at s l) ≡ pasted at (s ++ t) l
+  unfolding front
+  pasted-twice t =
+      let end : at + length s + length t ≡ at + length (s ++ t) = omega (arith, length-append s t) in
+      ap (pasted (at + length s) t) pasted-front
+      ∙ ap₂ (λ (x y : List ℕ). x ++ (t ++ y)) (take-at front _ (at + length s) front-length)
+      (ap (λ (n : ℕ). drop (n + length t) (front ++ drop (at + length s) l)) (sym front-length)
+      ∙ drop-append-add front (drop (at + length s) l) (length t) ∙ drop-drop (length t) (at + length s) l ∙ ap (λ (n : ℕ). drop n l) end)
+      ∙ append-assoc (take at l) s (t ++ drop (at + length (s ++ t)) l)
+      ∙ ap (λ (x : List ℕ). take at l ++ x) (sym (append-assoc s t (drop (at + length (s ++ t)) l)))
+
+  pub pasted-length : at + length s ≤ length l → length (pasted at s l) ≡ length l
+  pasted-length f =
+      ap length pasted-front ∙ omega (arith, length-append front (drop (at + length s) l), front-length, length-drop (at + length s) l)
+
+-- Putting k digits from the last to the first: those to come, of what is left of the number, and those put already are all of them.
+pub record Filling (out₀ : List ℕ) (at base k x : ℕ) (out : List ℕ) (rest i : ℕ) : Type 0 where
+  pub to-come : i ≤ k
+  pub put : List ℕ
+  pub whole : digits base k x ≡ digits base i rest ++ put
+  pub held : out ≡ take (at + i) out₀ ++ (put ++ drop (at + k) out₀)
+  pub long : length out ≡ length out₀
+
+module _ (out₀ : List ℕ) (at base k x : ℕ) where
+  pub filling-start : Filling out₀ at base k x out₀ x k
+  filling-start =
+      record { to-come = omega arith; put = []; whole = sym (append-nil (digits base k x)); held = sym (take-append-drop (at + k) out₀); long = refl }
+
+  pub filling-step : {out : List ℕ} {rest : ℕ} (i j : ℕ) → i ≡ suc j → at + k ≤ length out₀ → Filling out₀ at base k x out rest i → (v : ℕ) → v ≡ digit (rest % base)
+      → Filling out₀ at base k x (set out (at + j) v) (rest / base) j
+  unfolding digits
+  filling-step {out} {rest} i j e fits f v q =
+      let few : i ≤ k = f .to-come in
+      let next : at + i ≡ suc (at + j) = omega arith in
+      record {
+        to-come = omega arith;
+        put = v ∷ f .put;
+        whole = f .whole ∙ ap (λ (n : ℕ). digits base n rest ++ f .put) e ∙ append-assoc (digits base j (rest / base)) (digit (rest % base) ∷ []) (f .put)
+            ∙ ap (λ (d : ℕ). digits base j (rest / base) ++ d ∷ f .put) (sym q);
+        held = back-store out₀ out (f .put ++ drop (at + k) out₀) (at + j) v (omega arith)
+            (f .held ∙ ap (λ (n : ℕ). take n out₀ ++ (f .put ++ drop (at + k) out₀)) next);
+        long = length-set out (at + j) v ∙ f .long;
+      }
+
+  pub filling-end : {out : List ℕ} {rest : ℕ} (i : ℕ) → i ≡ 0 → Filling out₀ at base k x out rest i → out ≡ pasted at (digits base k x) out₀
+  unfolding digits
+  filling-end {out} {rest} i e f =
+      let all : digits base k x ≡ f .put = f .whole ∙ ap (λ (n : ℕ). digits base n rest ++ f .put) e in
+      f .held ∙ ap (λ (n : ℕ). take (at + n) out₀ ++ (f .put ++ drop (at + k) out₀)) e ∙ ap (λ (n : ℕ). take n out₀ ++ (f .put ++ drop (at + k) out₀)) (add-zero at)
+      ∙ ap₂ (λ (t : List ℕ) (n : ℕ). take at out₀ ++ (t ++ drop (at + n) out₀)) (sym all) (sym (digits-length base k x))

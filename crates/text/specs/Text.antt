@@ -1,0 +1,37 @@
+-- Numbers as text, the share, and what a buffer holds with a text put into it.
+-- Assumes nothing.
+use mathlib.Core.Bool.{cond}
+use mathlib.Core.List.{List, [], _∷_, _++_}
+use Prim.Native.Nat.{ℕ, zero, suc, _+_, _*_, _/_, _%_}
+use lib.Dec.{ltb}
+use lib.ListN.{length, take, drop}
+
+-- a digit in ASCII, lower-case from ten on
+abbrev pub digit : ℕ → ℕ
+digit n = cond (ltb n 10) (48 + n) (87 + n)
+
+-- the last k digits of x in a base, the highest first
+unfoldable pub digits : ℕ → ℕ → ℕ → List ℕ
+digits base zero x = []
+digits base (suc k) x = digits base k (x / base) ++ (digit (x % base) ∷ [])
+
+-- how many decimal digits x has, with no zero in front; at most k + 1 are counted
+unfoldable pub places : ℕ → ℕ → ℕ
+places zero x = 1
+places (suc k) x = cond (ltb x 10) 1 (suc (places k (x / 10)))
+
+-- a set as 16 hexadecimal digits
+abbrev pub hex : ℕ → List ℕ
+hex x = digits 16 16 x
+
+-- a decimal number; a 64-bit number has at most 20 digits
+abbrev pub decimal : ℕ → List ℕ
+decimal x = digits 10 (places 19 x) x
+
+-- 1000 times good over n, rounded to a whole number, a half upwards
+abbrev pub shareOf : ℕ → ℕ → ℕ
+shareOf good n = (2000 * good + n) / (2 * n)
+
+-- a list with a text put into it at a place
+abbrev pub pasted : ℕ → List ℕ → List ℕ → List ℕ
+pasted at text l = take at l ++ (text ++ drop (at + length text) l)

@@ -1,0 +1,76 @@
+// Numbers as text, put into a lent buffer, and the share. Definitions: specs/.
+ghost use mathlib.Core.Path.{_≡_};
+ghost use Prim.Native.Nat.{_+_, _≤_, _<_};
+ghost use lib.ListN.{length};
+ghost use Rattle.text.specs.Text.{digit, digits, places, hex, decimal, shareOf, pasted};
+
+// Puts a text at a place, and answers the place behind it.
+pub fn put(out: &mut [u8], at: usize, text: &[u8]) -> usize
+    requires { ⌜ at + length (now text) ≤ length (now out) ⌝ }
+    ensures { λ r. ⌜ (r ≡ at + length (now (text .entry))) × (now (out .exit) ≡ pasted at (now (text .entry)) (now (out .entry))) ⌝ }
+{
+    at + bytes::copy(text, &mut out[at..])
+}
+
+// A digit in ASCII.
+fn digit_of(n: u64) -> u8
+    requires { ⌜ n < 16 ⌝ }
+    ensures { λ r. ⌜ r ≡ digit n ⌝ }
+{
+    if n < 10 { 48 + n as u8 } else { 87 + n as u8 }
+}
+
+// The last k digits of x, put from the last to the first.
+fn put_digits(out: &mut [u8], at: usize, base: u64, k: usize, x: u64) -> usize
+    requires { ⌜ (1 ≤ base) × (base ≤ 16) ⌝ }
+    requires { ⌜ at + k ≤ length (now out) ⌝ }
+    ensures { λ r. ⌜ (r ≡ at + k) × (now (out .exit) ≡ pasted at (digits base k x) (now (out .entry))) ⌝ }
+{
+    let mut rest = x;
+    let mut i = k;
+    while 0 < i {
+        i -= 1;
+        out[at + i] = digit_of(rest % base);
+        rest = rest / base;
+    }
+    at + k
+}
+
+// A set as 16 hexadecimal digits.
+pub fn put_hex(out: &mut [u8], at: usize, x: u64) -> usize
+    requires { ⌜ at + 16 ≤ length (now out) ⌝ }
+    ensures { λ r. ⌜ (r ≡ at + 16) × (now (out .exit) ≡ pasted at (hex x) (now (out .entry))) ⌝ }
+{
+    put_digits(out, at, 16, 16, x)
+}
+
+// How many decimal digits x has.
+fn decimal_places(x: u64) -> usize
+    ensures { λ r. ⌜ (r ≡ places 19 x) × (r ≤ 20) ⌝ }
+{
+    let mut rest = x;
+    let mut n = 1;
+    while 9 < rest {
+        rest = rest / 10;
+        n += 1;
+    }
+    n
+}
+
+// A decimal number with no zero in front.
+pub fn put_decimal(out: &mut [u8], at: usize, x: u64) -> usize
+    requires { ⌜ at + 20 ≤ length (now out) ⌝ }
+    ensures { λ r. ⌜ (r ≡ at + places 19 x) × (now (out .exit) ≡ pasted at (decimal x) (now (out .entry))) ⌝ }
+{
+    put_digits(out, at, 10, decimal_places(x), x)
+}
+
+// 1000 times good over n, rounded to a whole number, a half upwards; of no lines, 0.
+pub fn share(good: u32, n: u32) -> u64
+    ensures { λ r. ⌜ r ≡ shareOf good n ⌝ }
+{
+    if n == 0 {
+        return 0;
+    }
+    (2000 * (good as u64) + n as u64) / (2 * (n as u64))
+}

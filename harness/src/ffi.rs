@@ -1,0 +1,146 @@
+//! The engine's operations: declarations that follow `include/solver.h`, and a safe function for each.
+//! The engine asks nothing of its callers but valid slices that do not overlap, which Rust's references are.
+
+use crate::Answer;
+
+mod raw {
+    extern "C" {
+        pub fn solver_read(
+            file: *const u8,
+            file_len: usize,
+            signs: *mut u8,
+            signs_len: usize,
+            kinds: *mut u8,
+            kinds_len: usize,
+            words: *mut u64,
+            words_len: usize,
+            answer: *mut u64,
+        );
+        pub fn solver_write(
+            n: usize,
+            d: usize,
+            signs: *const u8,
+            signs_len: usize,
+            kinds: *const u8,
+            kinds_len: usize,
+            words: *const u64,
+            words_len: usize,
+            buffer: *mut u8,
+            buffer_len: usize,
+            answer: *mut u64,
+        );
+        pub fn solver_query(
+            file: *const u8,
+            file_len: usize,
+            arguments: *const u64,
+            arguments_len: usize,
+            answer: *mut u64,
+        );
+        pub fn solver_plain(
+            file: *const u8,
+            file_len: usize,
+            a: u64,
+            b: u64,
+            ceiling: u64,
+            answer: *mut u64,
+        );
+        pub fn solver_built(file: *const u8, file_len: usize, a: u64, b: u64, answer: *mut u64);
+        pub fn solver_lent(
+            file: *const u8,
+            file_len: usize,
+            a: u64,
+            b: u64,
+            u: *const u8,
+            u_len: usize,
+            v: *const u8,
+            v_len: usize,
+            answer: *mut u64,
+        );
+        pub fn solver_leaf_count(n: usize, h: usize, answer: *mut u64);
+    }
+}
+
+/// Calls a function that fills six words. They begin as no answer has them, so that a word left out shows.
+fn answered(call: impl FnOnce(*mut u64)) -> Answer {
+    let mut words = [0x5a5a_5a5a_5a5a_5a5a_u64; 6];
+    call(words.as_mut_ptr());
+    let [number, set, count, length, lines, levels] = words;
+    Answer { number, set, count, length, lines, levels }
+}
+
+pub fn read(file: &[u8], signs: &mut [u8], kinds: &mut [u8], words: &mut [u64]) -> Answer {
+    answered(|answer| unsafe {
+        raw::solver_read(
+            file.as_ptr(),
+            file.len(),
+            signs.as_mut_ptr(),
+            signs.len(),
+            kinds.as_mut_ptr(),
+            kinds.len(),
+            words.as_mut_ptr(),
+            words.len(),
+            answer,
+        )
+    })
+}
+
+pub fn write(
+    n: usize,
+    d: usize,
+    signs: &[u8],
+    kinds: &[u8],
+    words: &[u64],
+    buffer: &mut [u8],
+) -> Answer {
+    answered(|answer| unsafe {
+        raw::solver_write(
+            n,
+            d,
+            signs.as_ptr(),
+            signs.len(),
+            kinds.as_ptr(),
+            kinds.len(),
+            words.as_ptr(),
+            words.len(),
+            buffer.as_mut_ptr(),
+            buffer.len(),
+            answer,
+        )
+    })
+}
+
+pub fn query(file: &[u8], arguments: &[u64]) -> Answer {
+    answered(|answer| unsafe {
+        raw::solver_query(file.as_ptr(), file.len(), arguments.as_ptr(), arguments.len(), answer)
+    })
+}
+
+pub fn plain(file: &[u8], a: u64, b: u64, ceiling: u64) -> Answer {
+    answered(|answer| unsafe {
+        raw::solver_plain(file.as_ptr(), file.len(), a, b, ceiling, answer)
+    })
+}
+
+pub fn built(file: &[u8], a: u64, b: u64) -> Answer {
+    answered(|answer| unsafe { raw::solver_built(file.as_ptr(), file.len(), a, b, answer) })
+}
+
+pub fn lent(file: &[u8], a: u64, b: u64, u: &[u8], v: &[u8]) -> Answer {
+    answered(|answer| unsafe {
+        raw::solver_lent(
+            file.as_ptr(),
+            file.len(),
+            a,
+            b,
+            u.as_ptr(),
+            u.len(),
+            v.as_ptr(),
+            v.len(),
+            answer,
+        )
+    })
+}
+
+pub fn leaf_count(n: usize, h: usize) -> Answer {
+    answered(|answer| unsafe { raw::solver_leaf_count(n, h, answer) })
+}

@@ -1,0 +1,14 @@
+//! Tests and benchmark of the engine behind its C interface (`include/solver.h`).
+//!
+//! - `ffi`: the engine's operations.
+//! - `reference`: an unrelated implementation of document 01, which the tests compare the engine with.
+//! - `random`: models, files, bounds and trees from a seed.
+//! - `baseline`: the engine's own algorithm in Rust, which the benchmark compares its speed with.
+
+mod answer;
+pub mod baseline;
+pub mod ffi;
+pub mod random;
+pub mod reference;
+
+pub use answer::Answer;

@@ -1,0 +1,103 @@
+//! The nested fixpoint as the winning positions of a parity game, solved by Zielonka's recursive algorithm.
+//!
+//! A play goes from a line to one of its operands and on to that operand's line. At an "any" line the verifier moves,
+//! at an "all" line the refuter. The outermost level that is read again and again decides an endless play: the
+//! verifier wins if it is greatest, the refuter if it is least. A line of A is won at once, a line outside B lost.
+
+use super::model::{Model, Set};
+
+struct Position {
+    /// Whether the verifier moves here.
+    verifier: bool,
+    priority: usize,
+    moves: Vec<usize>,
+}
+
+struct Game {
+    positions: Vec<Position>,
+    /// For each position, those that have a move to it.
+    sources: Vec<Vec<usize>>,
+}
+
+/// The nested fixpoint between A and B.
+pub fn winning_lines(model: &Model, a: &[bool], b: &[bool]) -> Set {
+    let game = game_of(model, a, b);
+    let mut won = game.solve(&vec![true; game.positions.len()]);
+    won.truncate(model.lines());
+    won
+}
+
+/// Positions: the lines, then line j as valued at level k for each k and j. An even priority is the verifier's; a
+/// level's is even if it is greatest, and above that of each level inside it. A line's own never decides.
+fn game_of(model: &Model, a: &[bool], b: &[bool]) -> Game {
+    let n = model.lines();
+    let mut positions = Vec::new();
+    for i in 0..n {
+        positions.push(if a[i] {
+            Position { verifier: true, priority: 0, moves: vec![i] }
+        } else if !b[i] {
+            Position { verifier: true, priority: 1, moves: vec![i] }
+        } else {
+            let moves = model.operands[i].iter().map(|o| n + o.level * n + o.line).collect();
+            Position { verifier: !model.all[i], priority: 0, moves }
+        });
+    }
+    for (level, &greatest) in model.greatest.iter().enumerate() {
+        let priority = 2 * level + if greatest { 2 } else { 3 };
+        positions.extend((0..n).map(|j| Position { verifier: true, priority, moves: vec![j] }));
+    }
+    let mut sources = vec![Vec::new(); positions.len()];
+    for (from, position) in positions.iter().enumerate() {
+        for &to in &position.moves {
+            sources[to].push(from);
+        }
+    }
+    Game { positions, sources }
+}
+
+impl Game {
+    /// The positions from which a player can force the play into `target`, all within `inside`.
+    fn attractor(&self, inside: &[bool], verifier: bool, target: Vec<usize>) -> Vec<bool> {
+        let in_game = |moves: &[usize]| moves.iter().filter(|&&to| inside[to]).count();
+        // How many moves the other player still has that stay outside.
+        let mut escapes: Vec<usize> = self.positions.iter().map(|p| in_game(&p.moves)).collect();
+        let mut attracted = vec![false; self.positions.len()];
+        for &position in &target {
+            attracted[position] = true;
+        }
+        let mut open = target;
+        while let Some(to) = open.pop() {
+            for &from in &self.sources[to] {
+                escapes[from] = escapes[from].saturating_sub(1);
+                let forced = self.positions[from].verifier == verifier || escapes[from] == 0;
+                if inside[from] && !attracted[from] && forced {
+                    attracted[from] = true;
+                    open.push(from);
+                }
+            }
+        }
+        attracted
+    }
+
+    /// The positions of the game `inside` that the verifier wins. Each has a move that stays inside.
+    fn solve(&self, inside: &[bool]) -> Vec<bool> {
+        let size = self.positions.len();
+        let members = |set: &dyn Fn(usize) -> bool| (0..size).filter(|&p| set(p)).collect::<Vec<_>>();
+        let Some(highest) = (0..size).filter(|&p| inside[p]).map(|p| self.positions[p].priority).max() else {
+            return vec![false; size];
+        };
+        let verifier = highest % 2 == 0;
+        let decisive = members(&|p| inside[p] && self.positions[p].priority == highest);
+        let near = self.attractor(inside, verifier, decisive);
+        let far: Vec<bool> = (0..size).map(|p| inside[p] && !near[p]).collect();
+        let won_far = self.solve(&far);
+        let lost_far = members(&|p| far[p] && won_far[p] != verifier);
+        if lost_far.is_empty() {
+            return inside.iter().map(|&position| position && verifier).collect();
+        }
+        let lost = self.attractor(inside, !verifier, lost_far);
+        let rest: Vec<bool> = (0..size).map(|p| inside[p] && !lost[p]).collect();
+        let won_rest = self.solve(&rest);
+        (0..size).map(|p| if lost[p] { !verifier } else { won_rest[p] }).collect()
+    }
+}

@@ -1,0 +1,14 @@
+//! Document 01 once more, written for clarity and without the engine's ways: sets are lists of booleans, operands
+//! are visited one by one, trees are linked nodes, fixed points are taken by their definition or from a game.
+
+pub mod game;
+pub mod model;
+pub mod nested;
+mod operations;
+pub mod plain;
+pub mod restricted;
+pub mod tree;
+
+pub use model::{set_of, word_of, Model, Operand, Set};
+pub use operations::{built, judgeable, leaf_count, lent, plain, query, read, write};
+pub use tree::Tree;

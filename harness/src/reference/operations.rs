@@ -1,0 +1,128 @@
+//! The operations, with their refusals in document 01's order. Each has the signature of the engine's.
+
+use super::model::{set_of, within, word_of, Model, Parts, Set};
+use super::plain::rounds;
+use super::restricted::restricted;
+use super::tree::Tree;
+use crate::Answer;
+
+/// Whether a word has a bit of n or more.
+fn strays(word: u64, n: usize) -> bool {
+    (n..64).any(|line| word >> line & 1 == 1)
+}
+
+/// A file's model with the bounds as sets, or the first of refusals 1 to 9.
+pub fn judgeable(file: &[u8], a: u64, b: u64) -> Result<(Model, Set, Set), u64> {
+    let model = Model::from_file(file)?;
+    let n = model.lines();
+    if strays(a, n) || strays(b, n) {
+        return Err(9);
+    }
+    let (lower, upper) = (set_of(a, n), set_of(b, n));
+    if !within(&lower, &upper) {
+        return Err(9);
+    }
+    Ok((model, lower, upper))
+}
+
+pub fn read(file: &[u8], signs: &mut [u8], kinds: &mut [u8], words: &mut [u64]) -> Answer {
+    let model = match Model::from_file(file) {
+        Ok(model) => model,
+        Err(number) => return Answer::refused(number),
+    };
+    let parts = model.parts();
+    if signs.len() < parts.signs.len() || kinds.len() < parts.kinds.len() || words.len() < parts.words.len() {
+        return Answer::refused(12);
+    }
+    signs[..parts.signs.len()].copy_from_slice(&parts.signs);
+    kinds[..parts.kinds.len()].copy_from_slice(&parts.kinds);
+    words[..parts.words.len()].copy_from_slice(&parts.words);
+    Answer { lines: model.lines() as u64, levels: model.levels() as u64, ..Answer::default() }
+}
+
+pub fn write(n: usize, d: usize, signs: &[u8], kinds: &[u8], words: &[u64], buffer: &mut [u8]) -> Answer {
+    if !(1..=64).contains(&n) {
+        return Answer::refused(2);
+    }
+    if !(1..=8).contains(&d) {
+        return Answer::refused(3);
+    }
+    if signs.len() != d || kinds.len() != n || words.len() != n * d {
+        return Answer::refused(13);
+    }
+    let parts = Parts { signs: signs.to_vec(), kinds: kinds.to_vec(), words: words.to_vec() };
+    let file = match Model::from_parts(n, d, &parts) {
+        Ok(model) => model.file(),
+        Err(number) => return Answer::refused(number),
+    };
+    if buffer.len() < file.len() {
+        return Answer::refused(12);
+    }
+    buffer[..file.len()].copy_from_slice(&file);
+    Answer { length: file.len() as u64, ..Answer::default() }
+}
+
+pub fn query(file: &[u8], arguments: &[u64]) -> Answer {
+    let model = match Model::from_file(file) {
+        Ok(model) => model,
+        Err(number) => return Answer::refused(number),
+    };
+    let n = model.lines();
+    if arguments.len() != model.levels() {
+        return Answer::refused(13);
+    }
+    if arguments.iter().any(|&word| strays(word, n)) {
+        return Answer::refused(9);
+    }
+    let sets: Vec<Set> = arguments.iter().map(|&word| set_of(word, n)).collect();
+    Answer { set: word_of(&model.query(&sets)), ..Answer::default() }
+}
+
+pub fn plain(file: &[u8], a: u64, b: u64, ceiling: u64) -> Answer {
+    match judgeable(file, a, b) {
+        Err(number) => Answer::refused(number),
+        Ok((model, lower, upper)) => match rounds(&model, &lower, &upper, ceiling) {
+            None => Answer::refused(10),
+            Some((set, count)) => Answer::judged(word_of(&set), count),
+        },
+    }
+}
+
+pub fn built(file: &[u8], a: u64, b: u64) -> Answer {
+    match judgeable(file, a, b) {
+        Err(number) => Answer::refused(number),
+        Ok((model, lower, upper)) => {
+            let u = Tree::built_in(model.lines(), model.least_levels());
+            let v = Tree::built_in(model.lines(), model.greatest_levels());
+            let (set, count) = restricted(&model, &lower, &upper, &u, &v);
+            Answer::judged(word_of(&set), count)
+        }
+    }
+}
+
+pub fn lent(file: &[u8], a: u64, b: u64, u: &[u8], v: &[u8]) -> Answer {
+    let (model, lower, upper) = match judgeable(file, a, b) {
+        Ok(judgeable) => judgeable,
+        Err(number) => return Answer::refused(number),
+    };
+    if u.len() > 1023 || v.len() > 1023 {
+        return Answer::refused(11);
+    }
+    let trees =
+        (Tree::from_gaps(model.least_levels(), u), Tree::from_gaps(model.greatest_levels(), v));
+    let (Some(u), Some(v)) = trees else {
+        return Answer::refused(11);
+    };
+    let (set, count) = restricted(&model, &lower, &upper, &u, &v);
+    Answer::judged(word_of(&set), count)
+}
+
+pub fn leaf_count(n: usize, h: usize) -> Answer {
+    if !(1..=64).contains(&n) {
+        return Answer::refused(2);
+    }
+    if h > 8 {
+        return Answer::refused(3);
+    }
+    Answer { count: Tree::built_in(n, h).leaf_count(), ..Answer::default() }
+}
