@@ -12,6 +12,7 @@ use lib.Seq.{length-take-le}
 use borrow.Author.Tests.{ltb-false, eqb-true, not-false}
 use Rattle.answers.specs.Answer.{Answer, refusal, numberOf}
 use Rattle.answers.specs.Check.{Check, firstOf, unless}
+use Rattle.answers.proofs.Checks.{Passes, passes-both, first-after, first-before, none-first, inside, unless-refused}
 use Rattle.model.specs.File.{linesIn, levelsIn, fileLength, sections, decode}
 use Rattle.model.specs.Query.{wordsOf}
 use Rattle.model.specs.Checks.{some, strays, idle, headerChecks, contentChecks, fileChecks, fileNumber}
@@ -24,8 +25,7 @@ use Rattle.sets.proofs.Order.{within-le}
 use Rattle.sets.proofs.Range.{full-below}
 use Rattle.model.proofs.Searches.{false-below, false-some}
 use Rattle.model.proofs.Codec.{words-length}
-use Rattle.model.proofs.Refusals.{Passes, passes-both, first-after, first-before, none-first, inside}
-use Rattle.model.proofs.Refusals.{unless-refused, AcceptedAs, RefusedAs, accepted-as, refused-as}
+use Rattle.model.proofs.Refusals.{AcceptedAs, RefusedAs, accepted-as, refused-as}
 
 -- the counts, and the length that they give
 pub record Headed (file : List ℕ) : Type 0 where

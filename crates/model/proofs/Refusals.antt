@@ -1,89 +1,16 @@
--- The first check that applies: checks of which none applies are passed over, and checks of which one applies decide.
--- Then what an answer of checking or reading says of that number and of the counts.
+-- What an answer of checking or reading says of its number and of the counts.
 -- Assumes nothing.
-use mathlib.Core.Bool.{Bool, true, false, cond, _&&_, and-eq-true-iff}
-use mathlib.Mathlib.Data.Bool.Basic.{or-eq-false-eq-eq-false-and-eq-false as neither}
-use mathlib.Core.List.{List, [], _∷_, _++_}
 use mathlib.Core.Path.{_≡_, refl, sym, _∙_, ap}
-use Prim.Native.Nat.{ℕ, zero, suc, _≤_, _<_}
+use Prim.Native.Nat.{ℕ, zero, suc, _<_}
 use native.Mathlib.Omega.{arith}
-use lib.Dec.{eqb, ltb, lit<}
-use borrow.Author.Tests.{ltb-true, ltb-false, eqb-false}
 use Rattle.answers.specs.Answer.{Answer, refusal, numberOf}
-use Rattle.answers.specs.Check.{Check, firstOf, unless, outside}
+use Rattle.answers.specs.Check.{unless}
 use Rattle.answers.specs.declared.Refusal.{Refusal}
-use Rattle.answers.specs.declared.Refusal.the-variants.{HeaderShort, Lines, Levels, Offset, FileLength, SignOrKind, StraySelection, NoOperand, Bounds, Ceiling, Tree, Room, SliceLength}
+use Rattle.answers.proofs.Checks.{number-positive}
 use Rattle.model.specs.Says.{readingAnswer, sized}
 use Rattle.model.specs.declared.layout.Model.{Model}
 use Rattle.model.specs.declared.layout.Reading.{Reading}
 use Rattle.model.specs.declared.layout.Reading.the-variants.{Accepted, Refused}
-
--- none of the checks applies
-abbrev pub Passes : List Check → Type 0
-Passes [] = Unit {0}
-Passes (c ∷ cs) = (c .applies ≡ false) × Passes cs
-
-pub passes-both : (cs ds : List Check) → Passes (cs ++ ds) → Passes cs × Passes ds
-passes-both [] ds h = (tt, h)
-passes-both (c ∷ cs) ds h =
-    let both = passes-both cs ds (h .1) in
-    ((h .0, both .0), both .1)
-
--- none of their numbers is 0
-abbrev pub numbered : List Check → Bool
-numbered [] = true
-numbered (c ∷ cs) = ltb 0 (c .number) && numbered cs
-
-pub first-after : (cs ds : List Check) → Passes cs → firstOf (cs ++ ds) ≡ firstOf ds
-first-after [] ds h = refl
-first-after (c ∷ cs) ds h = rw (h .0) (first-after cs ds (h .1))
-
-pub first-before : (cs ds : List Check) → 0 < firstOf cs → firstOf (cs ++ ds) ≡ firstOf cs
-first-before [] ds h = absurd (omega arith)
-first-before (c ∷ cs) ds h = at (c .applies) (first-before cs ds) h
-  where
-    at : (b : Bool) → (0 < firstOf cs → firstOf (cs ++ ds) ≡ firstOf cs) → 0 < cond b (c .number) (firstOf cs)
-        → cond b (c .number) (firstOf (cs ++ ds)) ≡ cond b (c .number) (firstOf cs)
-    at true later h = refl
-    at false later h = later h
-
-pub none-first : (cs : List Check) → numbered cs ≡ true → firstOf cs ≡ 0 → Passes cs
-none-first [] p h = tt
-none-first (c ∷ cs) p h = at (c .applies) (none-first cs (both .1)) h
-  where
-    both : (ltb 0 (c .number) ≡ true) × (numbered cs ≡ true)
-    both = and-eq-true-iff (ltb 0 (c .number)) (numbered cs) .0 p
-
-    at : (b : Bool) → (firstOf cs ≡ 0 → Passes cs) → cond b (c .number) (firstOf cs) ≡ 0 → (b ≡ false) × Passes cs
-    at true later h = absurd (omega (arith, ltb-true 0 (c .number) (both .0)))
-    at false later h = (refl, later h)
-
--- a count that is not outside is 1 to `most`
-pub inside : (most n : ℕ) → outside most n ≡ false → (0 < n) × (n ≤ most)
-inside most n h =
-    let both = neither (eqb n 0) (ltb most n) .0 h in
-    let nonzero : n ≡ 0 → ⊥ = eqb-false n 0 (both .0) in
-    (omega arith, ltb-false most n (both .1))
-
--- an answer with a number other than 0 is the refusal with it
-pub unless-refused : {e : ℕ} (a : Answer) → 0 < e → unless e a ≡ refusal e
-unless-refused {e = zero} a h = absurd (omega arith)
-unless-refused {e = suc e} a h = refl
-
-pub number-positive : (r : Refusal) → 0 < numberOf r
-number-positive HeaderShort = lit< tt
-number-positive Lines = lit< tt
-number-positive Levels = lit< tt
-number-positive Offset = lit< tt
-number-positive FileLength = lit< tt
-number-positive SignOrKind = lit< tt
-number-positive StraySelection = lit< tt
-number-positive NoOperand = lit< tt
-number-positive Bounds = lit< tt
-number-positive Ceiling = lit< tt
-number-positive Tree = lit< tt
-number-positive Room = lit< tt
-number-positive SliceLength = lit< tt
 
 -- what an answer with the number e, and the counts n and d where e is 0, says in each case
 pub record AcceptedAs (e n d : ℕ) (m : Model) : Type 0 where

@@ -1,3 +1,9 @@
 pub mod Places
 pub mod Rounds
+pub mod Walk
+pub mod Levels
+pub mod Few
+pub mod Gaps
+pub mod Halves
+pub mod Cuts
 pub mod Promises

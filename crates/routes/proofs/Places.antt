@@ -1,11 +1,11 @@
 -- Where the evaluators find things: a level's sign in the file, and the arguments of the levels above in their array.
 -- Assumes nothing.
-use mathlib.Core.List.{List, _∷_}
+use mathlib.Core.List.{List, [], _∷_}
 use mathlib.Core.Path.{_≡_, sym, _∙_, ap}
 use Prim.Native.Nat.{ℕ, suc, _+_, _≤_, _<_}
 use native.Mathlib.Omega.{arith}
 use lib.Dec.{eqb}
-use lib.ListN.{length, getD, take, drop, set, length-set}
+use lib.ListN.{length, getD, take, drop, set, length-set, length-take, drop-of-length-le}
 use lib.Seq.{getD-take, getD-drop, take-set-lt, drop-cons, drop-set-lt, getD-set-same, length-take-le}
 use Rattle.model.specs.System.{sign}
 use Rattle.model.specs.declared.layout.Model.{Model}
@@ -26,3 +26,7 @@ above-set m xs k x h l =
 -- and those above level k + 1 stay as they were
 pub above-kept : (m : Model) (xs : List ℕ) (k x : ℕ) → k < m .levels → above m (suc k) (set xs k x) ≡ above m (suc k) xs
 above-kept m xs k x h = ap (drop (suc k)) (take-set-lt (m .levels) xs k x h) ∙ drop-set-lt (suc k) (take (m .levels) xs) k x (omega arith)
+
+-- above the outermost level there are none
+pub above-none : (m : Model) (xs : List ℕ) → above m (m .levels) xs ≡ []
+above-none m xs = drop-of-length-le (take (m .levels) xs) {i = m .levels} (omega (arith, length-take (m .levels) xs))

@@ -68,7 +68,7 @@ impl Game {
         let mut open = target;
         while let Some(to) = open.pop() {
             for &from in &self.sources[to] {
-                escapes[from] = escapes[from].saturating_sub(1);
+                escapes[from] -= 1;
                 let forced = self.positions[from].verifier == verifier || escapes[from] == 0;
                 if inside[from] && !attracted[from] && forced {
                     attracted[from] = true;

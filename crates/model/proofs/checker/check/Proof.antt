@@ -9,12 +9,13 @@ use native.Mathlib.Omega.{arith}
 use lib.Dec.{ltb}
 use lib.ListN.{length, take, drop}
 use Rattle.answers.specs.Check.{firstOf, unless}
+use Rattle.answers.proofs.Checks.{Passes, first-after, first-before, none-first}
 use Rattle.model.specs.System.{System}
 use Rattle.model.specs.File.{signsAt, fileLength, linesIn, levelsIn, decode}
 use Rattle.model.specs.Checks.{some, someBelow, strays, idle, headerChecks, contentChecks, fileNumber}
 use Rattle.model.specs.Says.{sized}
 use Rattle.model.specs.declared.layout.Model.{Model}
-use Rattle.model.proofs.Refusals.{Passes, first-after, first-before, none-first, AcceptedAs, accepted-as, refused-as}
+use Rattle.model.proofs.Refusals.{AcceptedAs, accepted-as, refused-as}
 use Rattle.model.proofs.Lines.{some-bytes}
 use Rattle.model.proofs.Accepted.{Headed, headed, decoded, limits, room}
 use Rattle.model.proofs.checker.check.Statement.{statement}

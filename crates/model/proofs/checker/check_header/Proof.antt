@@ -10,11 +10,12 @@ use native.Mathlib.Omega.{arith}
 use lib.Dec.{eqb, ltb}
 use lib.ListN.{length}
 use Rattle.answers.specs.Check.{_if_, firstOf, unless}
+use Rattle.answers.proofs.Checks.{Passes, first-after, first-before, none-first, inside}
 use Rattle.model.specs.File.{signsAt, kindsAt, wordsAt, numberAt, linesIn, levelsIn}
 use Rattle.model.specs.Checks.{countChecks, layoutChecks, headerChecks}
 use Rattle.model.specs.Says.{readingAnswer, sized}
 use Rattle.model.specs.declared.layout.Model.{Model}
-use Rattle.model.proofs.Refusals.{Passes, first-after, first-before, none-first, inside, AcceptedAs, accepted-as, refused-as}
+use Rattle.model.proofs.Refusals.{AcceptedAs, accepted-as, refused-as}
 use Rattle.model.proofs.checker.check_header.Statement.{statement}
 use Rattle.model.proofs.checker.check_header.Tie as tie
 

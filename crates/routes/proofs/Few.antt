@@ -1,0 +1,89 @@
+-- The queries of a level are few: their number fits 64 bits.
+-- Assumes nothing.
+use mathlib.Core.Bool.{Bool, true, false}
+use mathlib.Core.List.{List}
+use mathlib.Core.Path.{_≡_, refl, _∙_, ap}
+use Prim.Native.Nat.{ℕ, zero, suc, _+_, _*_, _/_, _^_, _≤_}
+use native.Mathlib.Nat.{le-refl, le-trans, mul-le-mul, mul-le-mul-right, add-mul, suc-mul, pow-succ', pow-le-pow-right}
+use native.Mathlib.Omega.{arith}
+use lib.Pow.{pow-add}
+use Rattle.trees.specs.Tree.{leaves, IsTree}
+use Rattle.trees.specs.Built.{built, leafCount}
+use Rattle.trees.proofs.Built.{leaf-zero, leaf-step, built-tree}
+use Rattle.fixpoint.specs.Levels.{least-levels, greatest-levels}
+use Rattle.fixpoint.proofs.Queries.{queries-product}
+use Rattle.model.specs.System.{System, sign}
+use Rattle.routes.specs.declared.step.Found.{Found}
+use Rattle.routes.specs.Parts.{leastOf, greatestOf, queriesFrom, Sized, Lent}
+
+-- what a level gives, in few queries
+pub record FewQueries (Given : Found → Type 0) (r : Found) : Type 0 where
+  pub gives : Given r
+  pub few : r .count ≤ 64 ^ 8
+
+-- L(n, h) is at most 64 ^ h for n up to 64
+
+leaf-none : (h : ℕ) → leafCount 0 h ≡ 0
+unfolding leafCount
+leaf-none h = refl
+
+-- with at most c leaves to each child, S(n, h + 1) has at most n * c; m only bounds n
+by-children : (h c : ℕ) → ((n : ℕ) → n ≤ 64 → leafCount n h ≤ c) → (m n : ℕ) → n ≤ m → n ≤ 64 → leafCount n (suc h) ≤ n * c
+by-children h c few zero zero p q = omega (arith, leaf-none (suc h))
+by-children h c few zero (suc n) p q = absurd (omega arith)
+by-children h c few (suc m) zero p q = omega (arith, leaf-none (suc h))
+by-children h c few (suc m) (suc n) p q =
+    omega (
+      arith,
+      leaf-step n h,
+      by-children h c few m (suc n / 2) (omega arith) (omega arith),
+      few (suc n) q,
+      by-children h c few m (n / 2) (omega arith) (omega arith),
+      split,
+    )
+  where
+    halves : suc n ≡ suc n / 2 + suc (n / 2)
+    halves = omega arith
+
+    split : suc n * c ≡ suc n / 2 * c + (n / 2 * c + c)
+    split = ap (λ (x : ℕ). x * c) halves ∙ add-mul (suc n / 2) (suc (n / 2)) c ∙ rw suc-mul
+
+pub leaf-few : (h n : ℕ) → n ≤ 64 → leafCount n h ≤ 64 ^ h
+leaf-few zero zero q = omega (arith, leaf-none 0)
+leaf-few zero (suc n) q = omega (arith, leaf-zero n)
+leaf-few (suc h) n q =
+    rw (pow-succ' 64 h) (le-trans (by-children h (64 ^ h) (leaf-few h) n n (le-refl n) q) (mul-le-mul-right (64 ^ h) q))
+
+-- each level is least or greatest
+pub levels-sum : (sign : ℕ → Bool) (k : ℕ) → least-levels sign k + greatest-levels sign k ≡ k
+unfolding least-levels greatest-levels
+levels-sum sign zero = refl
+levels-sum sign (suc k) = by (sign k) refl (levels-sum sign k)
+  where
+    by : (s : Bool) → sign k ≡ s → least-levels sign k + greatest-levels sign k ≡ k → least-levels sign (suc k) + greatest-levels sign (suc k) ≡ suc k
+    by true e ih = rw e (omega arith)
+    by false e ih = rw e (omega arith)
+
+-- over built-in trees for up to 64 lines, at most 8 levels high together
+
+sized-tree : (n h : ℕ) → Sized n → IsTree h (built n h)
+sized-tree zero h z = absurd (omega arith)
+sized-tree (suc n) h z = built-tree n h
+
+sized-few : (n h : ℕ) → Sized n → leaves (built n h) ≤ 64 ^ h
+unfolding leafCount
+sized-few zero h z = absurd (omega arith)
+sized-few (suc n) h z = leaf-few h (suc n) (z .1)
+
+pub built-few : (s : System) (k p q : ℕ) → k ≤ 8 → Sized p → Sized q → queriesFrom s k (built p (leastOf s k)) (built q (greatestOf s k)) ≤ 64 ^ 8
+built-few s k p q h y z =
+    let i = leastOf s k in
+    let j = greatestOf s k in
+    rw (queries-product (sign s) k (built p i) (built q j) (sized-tree p i y) (sized-tree q j z))
+    (le-trans (mul-le-mul (sized-few p i y) (sized-few q j z))
+    (rw (← (pow-add 64 i j)) (pow-le-pow-right {n = 64} (omega arith) {j = 8} (omega (arith, levels-sum (sign s) k)))))
+
+-- over lent trees
+pub lent-few : (s : System) (k : ℕ) (u v : List ℕ) → Lent (leastOf s k) u → Lent (greatestOf s k) v → queriesFrom s k u v ≤ 1024 * 1024
+lent-few s k u v y z =
+    rw (queries-product (sign s) k u v (y .tree) (z .tree)) (mul-le-mul {n₂ = 1024} {m₂ = 1024} (omega arith) (omega arith))

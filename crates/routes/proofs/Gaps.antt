@@ -1,0 +1,77 @@
+-- The first gap of a tree's height cuts its root's first child off: the gaps before it are that child, and those after it have the other children.
+-- Assumes nothing.
+use mathlib.Core.List.{List, [], _∷_, _++_}
+use mathlib.Core.Path.{_≡_, sym, _∙_, ap}
+use Prim.Native.Nat.{ℕ, zero, suc, _+_, _-_, _<_}
+use native.Mathlib.Numerals.{add-one}
+use native.Mathlib.Omega.{arith}
+use lib.ListN.{length, getD, take, drop, length-take, length-drop}
+use lib.Seq.{split-at, take-all}
+use Rattle.trees.specs.Tree.{IsTree, leaf, gap, children, grow}
+use Rattle.trees.proofs.Children.{Trees, none, more, of-some, children-some, children-grow, grow-children, children-trees}
+use Rattle.routes.specs.Parts.{Lent}
+
+-- no gap of h among the first r
+abbrev pub NoneBefore : List ℕ → ℕ → ℕ → Type 0
+NoneBefore gaps h r = (i : ℕ) → i < r → getD gaps i 0 ≡ h → ⊥
+
+-- the gaps after gap r
+abbrev pub after : List ℕ → ℕ → List ℕ
+after gaps r = take (length gaps - (r + 1)) (drop (r + 1) gaps)
+
+after-drop : (gaps : List ℕ) (r : ℕ) → after gaps r ≡ drop (suc r) gaps
+after-drop gaps r = rw (add-one r) (take-all (length gaps - suc r) (drop (suc r) gaps) (omega (arith, length-drop (suc r) gaps)))
+
+pub after-shorter : (gaps : List ℕ) (r : ℕ) → r < length gaps → length (after gaps r) < length gaps
+after-shorter gaps r l = rw (after-drop gaps r, length-drop) (omega arith)
+
+-- parts of trees
+
+front-tree : {h : ℕ} {gaps : List ℕ} (r : ℕ) → IsTree (suc h) gaps → NoneBefore gaps (suc h) r → IsTree h (take r gaps)
+front-tree zero i free = leaf
+front-tree (suc r) leaf free = leaf
+front-tree {h} (suc r) (gap {g = g} low high i) free =
+    let other : g ≡ suc h → ⊥ = free 0 (omega arith) in
+    gap low (omega arith) (front-tree r i (λ j l. free (suc j) (omega arith)))
+
+drop-tree : {h : ℕ} {gaps : List ℕ} (r : ℕ) → IsTree h gaps → IsTree h (drop r gaps)
+drop-tree zero i = i
+drop-tree (suc r) leaf = leaf
+drop-tree (suc r) (gap low high i) = drop-tree r i
+
+-- a tree of height h is the only child of a root of height h + 1, and before a gap of h + 1 it is the first child
+
+only-child : {h : ℕ} {p : List ℕ} → IsTree h p → children (suc h) p ≡ p ∷ []
+unfolding grow
+only-child {h} {p} i = children-grow h p [] (more i none)
+
+first-child : {h : ℕ} {p q : List ℕ} → IsTree h p → IsTree (suc h) q → children (suc h) (p ++ suc h ∷ q) ≡ p ∷ children (suc h) q
+unfolding grow
+first-child {h} {p} {q} i j =
+    ap (λ (l : List ℕ). children (suc h) (p ++ suc h ∷ l)) (sym (grow-children (suc h) q))
+    ∙ of-some (λ ts. Trees h ts → children (suc h) (p ++ suc h ∷ grow (suc h) ts) ≡ p ∷ ts) (λ t ts is. children-grow h p (t ∷ ts) (more i is))
+    (children-some (suc h) q) (children-trees h q j)
+
+-- a lent tree, cut at its first gap of its height
+module _ {h hu : ℕ} (u : List ℕ) (cut : ℕ) (suc-h : hu ≡ suc h) (lent : Lent hu u) (free : NoneBefore u hu cut) where
+  front : IsTree h (take cut u)
+  front = front-tree cut (rw suc-h at (lent .tree)) (rw suc-h at free)
+
+  pub front-lent : Lent (hu - 1) (take cut u)
+  front-lent =
+      let e : hu - 1 ≡ h = omega arith in
+      record { tree = rw e front; few = rw length-take (omega (arith, lent .few)) }
+
+  pub after-lent : Lent hu (after u cut)
+  after-lent =
+      rw (after-drop u cut)
+      (record { tree = drop-tree (suc cut) (lent .tree); few = rw length-drop (omega (arith, lent .few)) })
+
+  pub cut-none : cut ≡ length u → children hu u ≡ take cut u ∷ []
+  cut-none e =
+      rw suc-h (ap (children (suc h)) (sym (take-all cut u (omega arith))) ∙ only-child front)
+
+  pub cut-first : cut < length u → getD u cut 0 ≡ hu → children hu u ≡ take cut u ∷ children hu (after u cut)
+  cut-first l e =
+      rw (after-drop u cut, suc-h)
+      (ap (children (suc h)) (split-at u cut 0 l ∙ rw (e, suc-h)) ∙ first-child front (drop-tree (suc cut) (rw suc-h at (lent .tree))))

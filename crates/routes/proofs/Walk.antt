@@ -1,0 +1,55 @@
+-- A level goes over the children of its tree one after the other: what it gives over some children and then over others is the last value,
+-- with the queries of both. Said of `rise`; a `fall` is a `rise` upside down (fixpoint's fall-is-rise).
+-- Assumes nothing.
+use mathlib.Core.List.{List, [], _∷_, _++_}
+use mathlib.Core.Path.{_≡_, refl, sym, _∙_, ap, ap₂}
+use Prim.Native.Nat.{ℕ, _+_}
+use native.Mathlib.Omega.{arith}
+use lib.Seq.{append-snoc}
+use Rattle.fixpoint.specs.Restricted.{rise, sum-over}
+use Rattle.routes.specs.declared.step.Found.{Found}
+use Rattle.routes.specs.Parts.{Gives}
+
+pub rise-append : {C : Type 0} (p : C → C → C → List ℕ → List ℕ → C) (b : C) (v : List ℕ) (a : C) (us ws : List (List ℕ)) → rise p b v a (us ++ ws) ≡ rise p b v (rise p b v a us) ws
+unfolding rise
+rise-append p b v a [] ws = refl
+rise-append p b v a (u ∷ us) ws = rise-append p b v (p a a b u v) us ws
+
+pub sum-append : (count : List ℕ → ℕ) (us ws : List (List ℕ)) → sum-over count (us ++ ws) ≡ sum-over count us + sum-over count ws
+unfolding sum-over
+sum-append count [] ws = omega arith
+sum-append count (u ∷ us) ws = omega (arith, sum-append count us ws)
+
+-- what two parts of a level give together: the second's set, and the queries of both
+abbrev pub then : Found → Found → Found
+then r t = record { set = t .set; count = r .count + t .count }
+
+module _ (p : ℕ → ℕ → ℕ → List ℕ → List ℕ → ℕ) (b : ℕ) (v : List ℕ) (count : List ℕ → ℕ) where
+  -- r is what the level gives over the children ws, from the value a
+  abbrev pub Rises : Found → ℕ → List (List ℕ) → Type 0
+  Rises r a ws = Gives r (rise p b v a ws) (sum-over count ws)
+
+  pub rises-none : (a : ℕ) → Rises (record { set = a; count = 0 }) a []
+  unfolding rise sum-over
+  rises-none a = record { value = refl; queries = refl }
+
+  pub rises-one : (r : Found) (a : ℕ) (w : List ℕ) → Gives r (p a a b w v) (count w) → Rises r a (w ∷ [])
+  unfolding rise sum-over
+  rises-one r a w g = record { value = g .value; queries = omega arith }
+
+  pub rises-append : (r t : Found) (a : ℕ) (us ws : List (List ℕ)) → Rises r a us → Rises t (r .set) ws → Rises (then r t) a (us ++ ws)
+  rises-append r t a us ws f g =
+      record {
+        value = g .value ∙ ap (λ (x : ℕ). rise p b v x ws) (f .value) ∙ sym (rise-append p b v a us ws);
+        queries = ap₂ _+_ (f .queries) (g .queries) ∙ sym (sum-append count us ws);
+      }
+
+  -- a first child, and the others
+  pub rises-cons : (r t : Found) (a : ℕ) (w : List ℕ) (ws : List (List ℕ)) → Gives r (p a a b w v) (count w) → Rises t (r .set) ws → Rises (then r t) a (w ∷ ws)
+  rises-cons r t a w ws f g = rises-append r t a (w ∷ []) ws (rises-one r a w f) g
+
+  -- some children, one more, and the others
+  pub rises-around : (r m t : Found) (a : ℕ) (us : List (List ℕ)) (w : List ℕ) (ws : List (List ℕ)) → Rises r a us → Gives m (p (r .set) (r .set) b w v) (count w) → Rises t (m .set) ws → Rises (then (then r m) t) a (us ++ w ∷ ws)
+  rises-around r m t a us w ws f g h =
+      rw (← (append-snoc us w ws))
+      (rises-append (then r m) t a (us ++ w ∷ []) ws (rises-append r m a us (w ∷ []) f (rises-one m (r .set) w g)) h)

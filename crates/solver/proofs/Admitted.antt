@@ -1,0 +1,82 @@
+-- What it means that a file and its bounds are admitted: the file is whole, the bounds are a range of its lines, and no number up to 9 applies.
+-- Assumes nothing.
+use mathlib.Core.Bool.{Bool, true, false, not, _||_}
+use mathlib.Mathlib.Data.Bool.Basic.{or-eq-false-eq-eq-false-and-eq-false as neither}
+use mathlib.Core.List.{List, [], _∷_, _++_}
+use mathlib.Core.Path.{_≡_, refl, sym, _∙_, ap}
+use Prim.Native.Nat.{ℕ, _≤_, _<_}
+use native.Mathlib.Omega.{arith}
+use borrow.Author.Tests.{not-false}
+use Rattle.answers.specs.Answer.{Answer, refusal, numberOf}
+use Rattle.answers.specs.Check.{Check, _if_, firstOf, unless}
+use Rattle.answers.specs.declared.Refusal.{Refusal}
+use Rattle.answers.proofs.Checks.{Passes, passes-both, passes-none, first-after, first-before, none-first, unless-refused}
+use Rattle.sets.specs.Set.{full, isWithin}
+use Rattle.sets.proofs.Order.{within-le}
+use Rattle.sets.proofs.Range.{full-below}
+use Rattle.fixpoint.specs.Lawful.{Range}
+use Rattle.fixpoint.specs.Sets.{sets}
+use Rattle.fixpoint.proofs.Sets.{sets-range}
+use Rattle.model.specs.File.{linesIn, levelsIn, decode, sections}
+use Rattle.model.specs.Checks.{fileChecks, fileNumber}
+use Rattle.model.specs.Says.{readingAnswer, sized}
+use Rattle.model.specs.declared.layout.Model.{Model}
+use Rattle.model.specs.declared.layout.Reading.{Reading}
+use Rattle.model.specs.declared.layout.Reading.the-variants as reading
+use Rattle.model.proofs.Refusals.{AcceptedAs, RefusedAs, accepted-as, refused-as}
+use Rattle.model.proofs.Accepted.{Accepted, accepted, decoded, limits, room}
+use Rattle.routes.specs.Parts.{Held, systemIn}
+use Rattle.solver.specs.Checks.{misplaced, boundChecks, builtNumber}
+
+pub record Admitted (file : List ℕ) (a b : ℕ) (m : Model) : Type 0 where
+  pub number : builtNumber file a b ≡ 0
+  pub counts : AcceptedAs (builtNumber file a b) (linesIn file) (levelsIn file) m
+  pub held : Held file m
+  pub system : systemIn file m ≡ decode file
+  pub some-line : 1 ≤ linesIn file
+  pub range : Range (sets (linesIn file)) a b
+
+-- bounds that are not misplaced are a range
+in-range : (n a b : ℕ) → misplaced n a b ≡ false → Range (sets n) a b
+in-range n a b h =
+    let first = neither (not (isWithin a (full n))) (not (isWithin b (full n)) || not (isWithin a b)) .0 h in
+    let rest = neither (not (isWithin b (full n))) (not (isWithin a b)) .0 (first .1) in
+    sets-range n a b (within-le a b (not-false (isWithin a b) (rest .1))) (full-below n b (within-le b (full n) (not-false (isWithin b (full n)) (rest .0))))
+
+module _ (file : List ℕ) (a b : ℕ) where
+  -- no check up to 9 applies
+  passes : builtNumber file a b ≡ 0 → Passes (boundChecks file a b)
+  unfolding builtNumber
+  passes h = none-first (boundChecks file a b) refl h
+
+  module _ {r : Reading} (says : readingAnswer r ≡ unless (builtNumber file a b) (sized (linesIn file) (levelsIn file))) where
+    pub admitted : {m : Model} → r ≡ reading.Accepted m → Admitted file a b m
+    unfolding fileNumber
+    admitted {m} e =
+        let counts = accepted-as (builtNumber file a b) (linesIn file) (levelsIn file) says e in
+        let both = passes-both (fileChecks file) (9 if misplaced (linesIn file) a b ∷ []) (passes (counts .number)) in
+        let none : fileNumber file ≡ 0 = passes-none (fileChecks file) (both .0) in
+        let whole = accepted file none in
+        record {
+          number = counts .number;
+          counts = counts;
+          held = record { few-lines = limits (whole .header) counts .0; few-levels = limits (whole .header) counts .1; whole = room (whole .header) counts };
+          system = decoded file counts;
+          some-line = whole .header .lines-least;
+          range = in-range (linesIn file) a b (both .1 .0);
+        }
+
+    pub turned-down : {e : Refusal} → r ≡ reading.Refused e → RefusedAs (builtNumber file a b) e
+    turned-down = refused-as (builtNumber file a b) (linesIn file) (levelsIn file) says
+
+  -- the number of an operation that makes more checks behind these
+  pub after-bounds : (more : List Check) → builtNumber file a b ≡ 0 → firstOf (boundChecks file a b ++ more) ≡ firstOf more
+  after-bounds more h = first-after (boundChecks file a b) more (passes h)
+
+  pub handed-on : (more : List Check) {e : Refusal} (x : Answer) → RefusedAs (builtNumber file a b) e → unless (firstOf (boundChecks file a b ++ more)) x ≡ refusal (numberOf e)
+  unfolding builtNumber
+  handed-on more x h =
+      ap (λ (n : ℕ). unless n x) (first-before (boundChecks file a b) more (h .positive)) ∙ unless-refused x (h .positive) ∙ ap refusal (sym (h .number))
+
+  pub handed-on-bounds : {e : Refusal} (x : Answer) → RefusedAs (builtNumber file a b) e → unless (builtNumber file a b) x ≡ refusal (numberOf e)
+  handed-on-bounds x h = unless-refused x (h .positive) ∙ ap refusal (sym (h .number))
