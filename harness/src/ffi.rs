@@ -36,14 +36,7 @@ mod raw {
             arguments_len: usize,
             answer: *mut u64,
         );
-        pub fn solver_plain(
-            file: *const u8,
-            file_len: usize,
-            a: u64,
-            b: u64,
-            ceiling: u64,
-            answer: *mut u64,
-        );
+        pub fn solver_plain(file: *const u8, file_len: usize, a: u64, b: u64, ceiling: u64, answer: *mut u64);
         pub fn solver_built(file: *const u8, file_len: usize, a: u64, b: u64, answer: *mut u64);
         pub fn solver_lent(
             file: *const u8,
@@ -84,14 +77,7 @@ pub fn read(file: &[u8], signs: &mut [u8], kinds: &mut [u8], words: &mut [u64]) 
     })
 }
 
-pub fn write(
-    n: usize,
-    d: usize,
-    signs: &[u8],
-    kinds: &[u8],
-    words: &[u64],
-    buffer: &mut [u8],
-) -> Answer {
+pub fn write(n: usize, d: usize, signs: &[u8], kinds: &[u8], words: &[u64], buffer: &mut [u8]) -> Answer {
     answered(|answer| unsafe {
         raw::solver_write(
             n,
@@ -116,9 +102,7 @@ pub fn query(file: &[u8], arguments: &[u64]) -> Answer {
 }
 
 pub fn plain(file: &[u8], a: u64, b: u64, ceiling: u64) -> Answer {
-    answered(|answer| unsafe {
-        raw::solver_plain(file.as_ptr(), file.len(), a, b, ceiling, answer)
-    })
+    answered(|answer| unsafe { raw::solver_plain(file.as_ptr(), file.len(), a, b, ceiling, answer) })
 }
 
 pub fn built(file: &[u8], a: u64, b: u64) -> Answer {
@@ -127,17 +111,7 @@ pub fn built(file: &[u8], a: u64, b: u64) -> Answer {
 
 pub fn lent(file: &[u8], a: u64, b: u64, u: &[u8], v: &[u8]) -> Answer {
     answered(|answer| unsafe {
-        raw::solver_lent(
-            file.as_ptr(),
-            file.len(),
-            a,
-            b,
-            u.as_ptr(),
-            u.len(),
-            v.as_ptr(),
-            v.len(),
-            answer,
-        )
+        raw::solver_lent(file.as_ptr(), file.len(), a, b, u.as_ptr(), u.len(), v.as_ptr(), v.len(), answer)
     })
 }
 

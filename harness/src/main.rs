@@ -1,1 +1,317 @@
-fn main() {}
+//! Speed of the engine beside the same algorithm in safe Rust, both called in turn in one run.
+//!
+//! `cargo run --release` takes about two minutes, `cargo run --release -- --quick` some seconds.
+
+use std::hint::black_box;
+use std::process::{Command, Stdio};
+use std::time::Instant;
+
+use harness::random::{self, full, Density, Random};
+use harness::reference::{Model, Tree};
+use harness::{baseline, ffi, Answer};
+
+/// Where a plain run is cut off, so that each ends in reasonable time.
+const CEILING: u64 = 200_000;
+
+/// What is measured, and how long each time of it is.
+#[derive(Clone, Copy)]
+struct Effort {
+    samples: usize,
+    seconds: f64,
+    /// The most queries of a judgement that is measured.
+    most_queries: u64,
+}
+
+const FULL: Effort = Effort { samples: 11, seconds: 0.03, most_queries: 20_000_000 };
+const QUICK: Effort = Effort { samples: 5, seconds: 0.005, most_queries: 500_000 };
+
+/// The median times of one call, in seconds.
+struct Times {
+    engine: f64,
+    rust: f64,
+}
+
+fn seconds_of(calls: usize, judge: &mut dyn FnMut() -> Answer) -> f64 {
+    let start = Instant::now();
+    for _ in 0..calls {
+        black_box(judge());
+    }
+    start.elapsed().as_secs_f64() / calls as f64
+}
+
+fn median(mut times: Vec<f64>) -> f64 {
+    times.sort_by(f64::total_cmp);
+    times[times.len() / 2]
+}
+
+/// Calls both in turn. A call that takes long is repeated less, three times at the least.
+fn measure(effort: Effort, engine: &mut dyn FnMut() -> Answer, rust: &mut dyn FnMut() -> Answer) -> Times {
+    let once = seconds_of(1, engine).max(1e-7);
+    let calls = (effort.seconds / once).ceil() as usize;
+    let samples = if once < 0.5 { effort.samples } else { 3 };
+    let (mut engine_times, mut rust_times) = (Vec::new(), Vec::new());
+    for sample in 0..samples {
+        if sample % 2 == 0 {
+            engine_times.push(seconds_of(calls, engine));
+            rust_times.push(seconds_of(calls, rust));
+        } else {
+            rust_times.push(seconds_of(calls, rust));
+            engine_times.push(seconds_of(calls, engine));
+        }
+    }
+    Times { engine: median(engine_times), rust: median(rust_times) }
+}
+
+#[derive(Clone, Copy, Debug, PartialEq)]
+enum Route {
+    Built,
+    Lent,
+    Plain,
+}
+
+impl Route {
+    fn name(self) -> &'static str {
+        match self {
+            Route::Built => "built",
+            Route::Lent => "lent",
+            Route::Plain => "plain",
+        }
+    }
+}
+
+/// A model to judge between empty and full, with the trees to lend for it.
+struct Subject {
+    name: &'static str,
+    lines: usize,
+    levels: usize,
+    file: Vec<u8>,
+    u: Vec<u8>,
+    v: Vec<u8>,
+    /// The queries that the built-in trees make.
+    built_queries: u64,
+}
+
+/// The built-in tree of height h for the most lines, n at most, that may be lent.
+fn largest_lent(n: usize, h: usize) -> Vec<u8> {
+    let gaps = (1..=n).rev().map(|lines| Tree::built_in(lines, h).gaps());
+    gaps.filter(|gaps| gaps.len() <= 1023).next().expect("S(1, h) has one leaf")
+}
+
+impl Subject {
+    fn new(name: &'static str, model: Model) -> Subject {
+        let (lines, levels) = (model.lines(), model.levels());
+        let (least, greatest) = (model.least_levels(), model.greatest_levels());
+        let leaves = |h| Tree::built_in(lines, h).leaf_count();
+        Subject {
+            name,
+            lines,
+            levels,
+            file: model.file(),
+            u: largest_lent(lines, least),
+            v: largest_lent(lines, greatest),
+            built_queries: leaves(least) * leaves(greatest),
+        }
+    }
+
+    /// Alternating signs, level 1 least, and alternating kinds.
+    fn random(name: &'static str, lines: usize, levels: usize, density: Density) -> Subject {
+        let mut random = Random::new(7);
+        let all: Vec<bool> = (0..lines).map(|i| i % 2 == 1).collect();
+        let signs = random::alternating(levels, false);
+        Subject::new(name, random::model_of_kinds(&mut random, &all, &signs, density))
+    }
+
+    /// Two or three operands a line.
+    fn sparse(lines: usize, levels: usize) -> Subject {
+        Subject::random("sparse", lines, levels, Density::Several)
+    }
+
+    /// Half of all possible operands.
+    fn dense(lines: usize, levels: usize) -> Subject {
+        Subject::random("dense", lines, levels, Density::Share(50))
+    }
+
+    /// A model of the lower bound, where plain rounds are many.
+    fn hard(lines: usize, levels: usize) -> Subject {
+        Subject::new("hard", random::hard_model(&mut Random::new(7), lines, levels / 2))
+    }
+
+    fn engine(&self, route: Route) -> Answer {
+        let (file, a, b) = (black_box(&self.file[..]), black_box(0), black_box(full(self.lines)));
+        match route {
+            Route::Built => ffi::built(file, a, b),
+            Route::Lent => ffi::lent(file, a, b, black_box(&self.u), black_box(&self.v)),
+            Route::Plain => ffi::plain(file, a, b, black_box(CEILING)),
+        }
+    }
+
+    fn rust(&self, route: Route) -> Answer {
+        let (file, a, b) = (black_box(&self.file[..]), black_box(0), black_box(full(self.lines)));
+        match route {
+            Route::Built => baseline::built(file, a, b),
+            Route::Lent => baseline::lent(file, a, b, black_box(&self.u), black_box(&self.v)),
+            Route::Plain => baseline::plain(file, a, b, black_box(CEILING)),
+        }
+    }
+}
+
+// ---- the table ----
+
+fn time(seconds: f64) -> String {
+    let (value, unit) = match seconds {
+        s if s < 1e-3 => (s * 1e6, "us"),
+        s if s < 1.0 => (s * 1e3, "ms"),
+        s => (s, "s "),
+    };
+    let digits = if value < 10.0 {
+        2
+    } else if value < 100.0 {
+        1
+    } else {
+        0
+    };
+    format!("{value:.digits$} {unit}")
+}
+
+fn heading(title: &str) {
+    println!("\n{title}");
+    println!(
+        "{:5} {:>5} {:>6} {:6} {:>9} {:>9} {:>9} {:>6} {:>6} {:>6} {:>6}",
+        "route", "lines", "levels", "model", "queries", "engine", "Rust", "Mq/s", "Rust", "ratio", "growth"
+    );
+}
+
+/// Measures one row and prints it, with the engine's time as a multiple of the row's before. Gives that time.
+fn row(effort: Effort, subject: &Subject, route: Route, before: Option<f64>) -> Option<f64> {
+    if route == Route::Built && subject.built_queries > effort.most_queries {
+        return None;
+    }
+    let answer = subject.engine(route);
+    assert_eq!(answer, subject.rust(route), "the engine and Rust judge differently");
+    // A plain run that was cut off has made as many queries as it may.
+    let queries = if answer.number == 10 { CEILING } else { answer.count };
+    let times = measure(effort, &mut || subject.engine(route), &mut || subject.rust(route));
+    let rate = |seconds: f64| queries as f64 / seconds / 1e6;
+    println!(
+        "{:5} {:5} {:6} {:6} {:9} {:>9} {:>9} {:6.2} {:6.2} {:6.2} {:>6}",
+        route.name(),
+        subject.lines,
+        subject.levels,
+        subject.name,
+        queries,
+        time(times.engine),
+        time(times.rust),
+        rate(times.engine),
+        rate(times.rust),
+        times.engine / times.rust,
+        before.map_or(String::new(), |before| format!("{:.1}", times.engine / before)),
+    );
+    Some(times.engine)
+}
+
+// ---- the stack of the deepest lent run ----
+
+/// Judges with 1,023 gaps on both sides, all at the root, and 8 levels: the most calls within calls.
+fn deepest_run(engine: bool) -> u64 {
+    let model = random::model(&mut Random::new(7), 1, &random::alternating(8, false), Density::Few);
+    let (file, gaps) = (model.file(), [4; 1023]);
+    let judge = if engine { ffi::lent } else { baseline::lent };
+    judge(&file, 0, 1, &gaps, &gaps).count
+}
+
+/// Whether the deepest run ends on a thread with so much stack. A run that does not ends its process, so it has one of
+/// its own.
+fn ends_on(who: &str, kib: usize) -> bool {
+    let program = std::env::current_exe().expect("the path of this program");
+    let mut child = Command::new(program);
+    child.args(["--stack", who, &kib.to_string()]).stdout(Stdio::null()).stderr(Stdio::null());
+    child.status().expect("a process of this program").success()
+}
+
+/// The smallest stack, in steps of 16 KiB up to 8 MiB, on which the deepest run ends.
+fn stack_needed(who: &str) -> Option<usize> {
+    let step = 16;
+    let (mut short, mut enough) = (1, 8192 / step);
+    if !ends_on(who, enough * step) {
+        return None;
+    }
+    while enough - short > 1 {
+        let middle = (short + enough) / 2;
+        if ends_on(who, middle * step) {
+            enough = middle;
+        } else {
+            short = middle;
+        }
+    }
+    Some(enough * step)
+}
+
+fn print_stacks() {
+    println!("\nstack of the deepest lent run: 8 levels, 1,023 gaps on both sides");
+    for who in ["engine", "Rust"] {
+        match stack_needed(who) {
+            Some(kib) => println!("{who:6} {kib:6} KiB"),
+            None => println!("{who:6} more than 8192 KiB"),
+        }
+    }
+}
+
+fn main() {
+    let arguments: Vec<String> = std::env::args().skip(1).collect();
+    if let [option, who, kib] = &arguments[..] {
+        if option == "--stack" {
+            let engine = who == "engine";
+            let stack = 1024 * kib.parse::<usize>().expect("a number of KiB");
+            let thread = std::thread::Builder::new().stack_size(stack).spawn(move || deepest_run(engine));
+            assert_eq!(thread.expect("a thread").join().expect("a run"), 1024 * 1024);
+            return;
+        }
+    }
+    let effort = match &arguments.iter().map(String::as_str).collect::<Vec<_>>()[..] {
+        [] => FULL,
+        ["--quick"] => QUICK,
+        _ => {
+            eprintln!("usage: harness [--quick]");
+            std::process::exit(2);
+        }
+    };
+
+    println!("Time of one judgement between empty and full, the engine's and Rust's, the median of");
+    println!("several calls in turn; millions of queries a second; ratio: engine's time / Rust's.");
+
+    for route in [Route::Built, Route::Lent, Route::Plain] {
+        heading(&format!(
+            "{} at 64 lines, signs alternating",
+            match route {
+                Route::Built => "by built-in trees",
+                Route::Lent => "by lent trees (the largest built-in ones that may be lent)",
+                Route::Plain => "plainly, ceiling 200,000",
+            }
+        ));
+        for levels in [2, 4, 6, 8] {
+            row(effort, &Subject::dense(64, levels), route, None);
+            row(effort, &Subject::sparse(64, levels), route, None);
+            if route == Route::Plain {
+                row(effort, &Subject::hard(64, levels), route, None);
+            }
+        }
+    }
+
+    for route in [Route::Built, Route::Lent, Route::Plain] {
+        heading("growth with the lines at 4 levels");
+        let mut before = None;
+        for lines in [8, 16, 32, 64] {
+            before = row(effort, &Subject::sparse(lines, 4), route, before);
+        }
+    }
+
+    for route in [Route::Built, Route::Lent, Route::Plain] {
+        heading("growth with the levels at 16 lines");
+        let mut before = None;
+        for levels in 1..=8 {
+            before = row(effort, &Subject::sparse(16, levels), route, before);
+        }
+    }
+
+    print_stacks();
+}

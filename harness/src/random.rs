@@ -1,5 +1,6 @@
 //! Models, files, bounds and trees from a seed, valid and not.
 
+use crate::reference::game::winning_lines;
 use crate::reference::model::Parts;
 use crate::reference::tree::lower_bound_model;
 use crate::reference::{set_of, Model, Operand, Set, Tree};
@@ -103,20 +104,32 @@ fn operands(random: &mut Random, i: usize, n: usize, d: usize, density: Density)
 /// A model of n lines with these signs.
 pub fn model(random: &mut Random, n: usize, greatest: &[bool], density: Density) -> Model {
     // The share of "all" lines; now and then all lines are of one kind.
-    let share = [0, 30, 50, 50, 50, 70, 100][random.between(0, 6)];
-    let all = (0..n).map(|_| random.chance(share)).collect();
-    let operands = (0..n).map(|i| operands(random, i, n, greatest.len(), density)).collect();
-    Model { greatest: greatest.to_vec(), all, operands }
+    let share = match random.between(0, 19) {
+        0 => 0,
+        1 => 100,
+        _ => random.between(30, 70),
+    };
+    let all: Vec<bool> = (0..n).map(|_| random.chance(share)).collect();
+    model_of_kinds(random, &all, greatest, density)
 }
 
-/// Some density, small ones more often.
-pub fn density(random: &mut Random) -> Density {
+/// A model with these kinds of its lines and these signs.
+pub fn model_of_kinds(random: &mut Random, all: &[bool], greatest: &[bool], density: Density) -> Model {
+    let (n, d) = (all.len(), greatest.len());
+    let operands = (0..n).map(|i| operands(random, i, n, d, density)).collect();
+    Model { greatest: greatest.to_vec(), all: all.to_vec(), operands }
+}
+
+/// Some density for n lines. With few lines, and with many operands in many lines, most sets are empty or full, which
+/// shows little.
+pub fn density(random: &mut Random, n: usize) -> Density {
     match random.between(0, 9) {
-        0..=3 => Density::Few,
-        4..=6 => Density::Several,
-        7 => Density::Share(random.between(2, 15)),
-        8 => Density::Share(50),
-        _ => Density::Share(95),
+        0 => Density::Share(95),
+        1 => Density::Share(50),
+        2 => Density::Share(random.between(2, 15)),
+        3..=6 if n <= 6 => Density::Share(random.between(20, 60)),
+        3..=6 => Density::Few,
+        _ => Density::Several,
     }
 }
 
@@ -153,7 +166,7 @@ pub fn any_model(random: &mut Random, n: usize, d: usize) -> Model {
         return hard_model(random, n, d / 2);
     }
     let signs = signs(random, d);
-    let density = density(random);
+    let density = density(random, n);
     model(random, n, &signs, density)
 }
 
@@ -221,6 +234,24 @@ pub fn case(random: &mut Random, n: usize, d: usize) -> Case {
     Case::new(model, bounds)
 }
 
+/// A case for the nested fixpoint by its definition, which makes 2 to the power n × d queries. Most small models have
+/// one of their bounds as their set, so a few are drawn until one has another.
+pub fn small_case(random: &mut Random) -> Case {
+    let most = if random.chance(5) { 15 } else { 12 };
+    let n = [1, 2, 3, 3, 4, 4, 5, 5, 6][random.between(0, 8)];
+    let d = random.between(1, (most / n).min(8));
+    let mut drawn = case(random, n, d);
+    for _ in 0..4 {
+        let (a, b) = drawn.bounds();
+        let set = winning_lines(&drawn.model, &a, &b);
+        if set != a && set != b {
+            break;
+        }
+        drawn = case(random, n, d);
+    }
+    drawn
+}
+
 /// A case with its file damaged, its bounds bad, both or neither.
 pub fn troubled_case(random: &mut Random, n: usize, d: usize) -> Case {
     let mut case = case(random, n, d);
@@ -240,9 +271,7 @@ pub fn gaps(random: &mut Random, h: usize, count: usize) -> Vec<u8> {
     // A favoured gap makes some trees broad at the root and others at the leaves.
     let favoured = random.between(1, h);
     let strength = random.between(0, 90);
-    (0..count)
-        .map(|_| if random.chance(strength) { favoured } else { random.between(1, h) } as u8)
-        .collect()
+    (0..count).map(|_| if random.chance(strength) { favoured } else { random.between(1, h) } as u8).collect()
 }
 
 /// The gaps of a tree of height h, 0 included, with at most so many gaps.
@@ -327,6 +356,7 @@ pub fn damage_file_often(random: &mut Random, file: &mut Vec<u8>, n: usize, d: u
     let ways = random.between(1, 3);
     let mut numbers: Vec<u64> = (0..ways).map(|_| random.between(1, 8) as u64).collect();
     numbers.sort();
+    numbers.dedup();
     for number in numbers.into_iter().rev() {
         damage_file(random, file, n, d, number);
     }

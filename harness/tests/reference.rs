@@ -20,10 +20,8 @@ fn over_built_in_trees(model: &Model, a: &[bool], b: &[bool]) -> (Vec<bool>, u64
 fn definition_game_rounds_and_universal_trees_give_one_set() {
     let mut random = Random::new(101);
     let mut between = 0;
-    for round in 0..600 {
-        let n = random.between(1, 6);
-        let d = random.between(1, (if round % 20 == 0 { 15 } else { 11 } / n).min(8));
-        let case = random::case(&mut random, n, d);
+    for _ in 0..2000 {
+        let case = random::small_case(&mut random);
         let (a, b) = case.bounds();
         let set = nested(&case.model, &a, &b);
         assert_eq!(winning_lines(&case.model, &a, &b), set, "game {case:?}");
@@ -31,14 +29,14 @@ fn definition_game_rounds_and_universal_trees_give_one_set() {
         assert_eq!(over_built_in_trees(&case.model, &a, &b).0, set, "trees {case:?}");
         between += (set != a && set != b) as usize;
     }
-    assert!(between > 100, "only {between} sets strictly between their bounds");
+    assert!(between > 300, "only {between} sets strictly between their bounds");
 }
 
 #[test]
 fn game_and_universal_trees_agree_on_more_lines() {
     let mut random = Random::new(102);
     let mut between = 0;
-    for _ in 0..300 {
+    for _ in 0..500 {
         let (n, d) = (random.between(5, 20), random.between(1, 4));
         let case = random::case(&mut random, n, d);
         let (a, b) = case.bounds();
@@ -102,13 +100,12 @@ fn built_in_trees_are_universal() {
         for n in 1..=most {
             let tree = Tree::built_in(n, h);
             assert!(tree.is_universal_for(n, h), "S({n}, {h})");
-            // A tree with n + 1 children of the root does not fit in S(n, 1), nor in one more than S(n, h) has.
-            assert!(h == 0 || !tree.is_universal_for(tree.children.len() + 1, 1.min(h)) || h > 1);
+            // Its root has n children, so that a root with n + 1 does not fit.
+            assert!(h == 0 || !tree.is_universal_for(n + 1, h), "S({n}, {h})");
         }
     }
     // S(2, 1) without a leaf, as both halves rounded alike would make it.
     assert!(!Tree::path(1).is_universal_for(2, 1));
-    assert!(!Tree::from_gaps(2, &[2]).unwrap().is_universal_for(2, 2));
 }
 
 #[test]

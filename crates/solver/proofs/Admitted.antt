@@ -25,16 +25,17 @@ use Rattle.model.specs.declared.layout.Reading.{Reading}
 use Rattle.model.specs.declared.layout.Reading.the-variants as reading
 use Rattle.model.proofs.Refusals.{AcceptedAs, RefusedAs, accepted-as, refused-as}
 use Rattle.model.proofs.Accepted.{Accepted, accepted, decoded, limits, room}
-use Rattle.routes.specs.Parts.{Held, systemIn}
+use Rattle.routes.specs.Parts.{Held, Sized, systemIn}
 use Rattle.solver.specs.Checks.{misplaced, boundChecks, builtNumber}
 
 pub record Admitted (file : List ℕ) (a b : ℕ) (m : Model) : Type 0 where
   pub number : builtNumber file a b ≡ 0
   pub counts : AcceptedAs (builtNumber file a b) (linesIn file) (levelsIn file) m
   pub held : Held file m
+  pub sized-lines : Sized (m .lines)
   pub system : systemIn file m ≡ decode file
-  pub some-line : 1 ≤ linesIn file
-  pub range : Range (sets (linesIn file)) a b
+  pub some-line : 1 ≤ decode file .lines
+  pub range : Range (sets (decode file .lines)) a b
 
 -- bounds that are not misplaced are a range
 in-range : (n a b : ℕ) → misplaced n a b ≡ false → Range (sets n) a b
@@ -51,7 +52,7 @@ module _ (file : List ℕ) (a b : ℕ) where
 
   module _ {r : Reading} (says : readingAnswer r ≡ unless (builtNumber file a b) (sized (linesIn file) (levelsIn file))) where
     pub admitted : {m : Model} → r ≡ reading.Accepted m → Admitted file a b m
-    unfolding fileNumber
+    unfolding fileNumber decode
     admitted {m} e =
         let counts = accepted-as (builtNumber file a b) (linesIn file) (levelsIn file) says e in
         let both = passes-both (fileChecks file) (9 if misplaced (linesIn file) a b ∷ []) (passes (counts .number)) in
@@ -61,6 +62,7 @@ module _ (file : List ℕ) (a b : ℕ) where
           number = counts .number;
           counts = counts;
           held = record { few-lines = limits (whole .header) counts .0; few-levels = limits (whole .header) counts .1; whole = room (whole .header) counts };
+          sized-lines = (omega (arith, counts .lines, whole .header .lines-least), limits (whole .header) counts .0);
           system = decoded file counts;
           some-line = whole .header .lines-least;
           range = in-range (linesIn file) a b (both .1 .0);

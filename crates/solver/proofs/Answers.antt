@@ -1,35 +1,53 @@
 -- From what an evaluator gives to what judging promises, for each operation: the refusals up to 9 handed on, its own refusal, and the accepted answer
 -- with all that is promised of it besides.
 -- Assumes nothing.
-use mathlib.Core.Bool.{Bool, true, false, cond}
+use mathlib.Core.Bool.{Bool, true, false, cond, true≢false, _||_}
 use mathlib.Core.List.{List, [], _∷_, _++_}
 use mathlib.Core.Path.{_≡_, refl, sym, _∙_, ap, ap₂}
 use Prim.Native.Nat.{ℕ, zero, suc, _+_, _-_, _≤_, _<_}
 use native.Mathlib.Omega.{arith}
-use borrow.Author.Tests.{le-ltb, lt-ltb}
+use mathlib.Mathlib.Data.Bool.Basic.{or-eq-false-eq-eq-false-and-eq-false as neither}
+use borrow.Author.Tests.{le-ltb, lt-ltb, ltb-false}
 use lib.Dec.{ltb}
 use Rattle.answers.specs.Answer.{Answer, refusal, numberOf}
-use Rattle.answers.specs.Check.{Check, _if_, firstOf, unless}
+use lib.ListN.{length}
+use Rattle.answers.specs.Check.{Check, _if_, firstOf, unless, outside}
 use Rattle.answers.specs.declared.Refusal.{Refusal}
-use Rattle.answers.specs.declared.Refusal.the-variants.{Ceiling}
-use Rattle.answers.proofs.Checks.{first-before}
+use Rattle.answers.specs.declared.Refusal.the-variants.{Ceiling, Tree}
+use Rattle.answers.proofs.Checks.{first-before, inside}
 use Rattle.fixpoint.specs.Plain.{Run}
+use Rattle.trees.specs.Tree.{IsTree, leaf, gap}
 use Rattle.model.specs.System.{System}
-use Rattle.model.specs.File.{linesIn, decode}
+use Rattle.model.specs.File.{decode}
+use Rattle.model.specs.Checks.{some}
 use Rattle.model.specs.declared.layout.Model.{Model}
 use Rattle.model.proofs.Refusals.{RefusedAs}
-use Rattle.routes.specs.Parts.{systemIn, above, plainFrom, under}
-use Rattle.routes.specs.Routes.{nestedSet, plainRun}
+use Rattle.routes.specs.Parts.{systemIn, above, plainFrom, under, restrictedFrom, queriesFrom, leastOf, greatestOf, Gives, Lent}
+use Rattle.routes.specs.Routes.{leastLevels, greatestLevels, builtLeast, builtGreatest, nestedSet, plainRun, restrictedSet, restrictedCount}
+use Rattle.routes.specs.declared.step.Found.{Found}
 use Rattle.routes.specs.declared.plain_route.Outcome.{Outcome}
 use Rattle.routes.specs.declared.plain_route.Outcome.the-variants as outcome
 use Rattle.routes.proofs.Places.{above-none}
-use Rattle.routes.proofs.Promises.{plain-is-nested, plain-rounds}
+use Rattle.routes.proofs.Promises.{plain-is-nested, plain-rounds, built-product, built-nested, lent-product, lent-nested}
 use Rattle.routes.proofs.Rounds.{Fits, settled-fits, spent-exceeds}
-use Rattle.solver.specs.Checks.{boundChecks, builtNumber, plainNumber}
-use Rattle.solver.specs.Says.{judged, judgedAnswer, plainAnswer, PlainSays}
+use Rattle.solver.specs.Checks.{badTree, boundChecks, builtNumber, plainNumber, treeChecks, lentNumber}
+use Rattle.solver.specs.Says.{judged, judgedAnswer, PlainSays, BuiltSays, LentSays}
 use Rattle.solver.specs.declared.Judged.{Judged}
-use Rattle.solver.specs.declared.Judged.the-variants.{Found, Refused}
-use Rattle.solver.proofs.Admitted.{Admitted, after-bounds, handed-on}
+use Rattle.solver.specs.declared.Judged.the-variants as judgement
+use Rattle.solver.proofs.Admitted.{Admitted, after-bounds, handed-on, handed-on-bounds}
+
+-- a tree that is not bad is one of its height, as short as may be lent
+pub good-tree : (h : ℕ) (gaps : List ℕ) → badTree h gaps ≡ false → Lent h gaps
+good-tree h gaps e =
+    let both = neither (ltb 1023 (length gaps)) (some (outside h) gaps) .0 e in
+    record { tree = within gaps (both .1); few = ltb-false 1023 (length gaps) (both .0) }
+  where
+    within : (gs : List ℕ) → some (outside h) gs ≡ false → IsTree h gs
+    within [] e = leaf
+    within (g ∷ gs) e =
+        let both = neither (outside h g) (some (outside h) gs) .0 e in
+        let bounds = inside h g (both .0) in
+        gap (bounds .0) (bounds .1) (within gs (both .1))
 
 module _ (file : List ℕ) (a b : ℕ) where
   -- a number of checks behind those up to 9 is not 0 where one of these applies
@@ -42,7 +60,7 @@ module _ (file : List ℕ) (a b : ℕ) where
     abbrev ceilingChecks : List Check
     ceilingChecks = 10 if ltb ceiling (plainRun (decode file) a b .queries) ∷ []
 
-    pub plain-refused : {e : Refusal} → RefusedAs (builtNumber file a b) e → PlainSays file a b ceiling (Refused e)
+    pub plain-refused : {e : Refusal} → RefusedAs (builtNumber file a b) e → PlainSays file a b ceiling (judgement.Refused e)
     unfolding plainNumber
     plain-refused h = record { answer = sym (handed-on file a b ceilingChecks _ h); nested = λ z. absurd (still-refused ceilingChecks h z) }
 
@@ -51,20 +69,20 @@ module _ (file : List ℕ) (a b : ℕ) where
         → ((rounds : ℕ) → ceiling < rounds → r ≡ under ceiling (plainFrom rounds (systemIn file m) a b (m .levels) (above m (m .levels) xs)))
         → r ≡ under ceiling (plainRun (decode file) a b)
     plain-outcome {m} r xs ad h =
-        let rounds : ℕ = suc (ceiling + linesIn file) in
+        let rounds : ℕ = suc (ceiling + decode file .lines) in
         h rounds (omega arith)
         ∙ ap (λ (ys : List ℕ). under ceiling (plainFrom rounds (systemIn file m) a b (m .levels) ys)) (above-none m xs)
         ∙ ap (λ (s : System). under ceiling (plainFrom rounds s a b (s .levels) [])) (ad .system)
-        ∙ ap (under ceiling) (plain-rounds (decode file) a b ?range rounds ?few)
+        ∙ ap (under ceiling) (plain-rounds (decode file) a b (ad .range) rounds (omega arith))
 
-    pub plain-spent : {m : Model} → Admitted file a b m → under ceiling (plainRun (decode file) a b) ≡ outcome.Spent → PlainSays file a b ceiling (Refused Ceiling)
+    pub plain-spent : {m : Model} → Admitted file a b m → under ceiling (plainRun (decode file) a b) ≡ outcome.Spent → PlainSays file a b ceiling (judgement.Refused Ceiling)
     unfolding plainNumber
     plain-spent ad e =
         let ten : plainNumber file a b ceiling ≡ 10 = after-bounds file a b ceilingChecks (ad .number) ∙ rw (lt-ltb ceiling (plainRun (decode file) a b .queries) (spent-exceeds ceiling (plainRun (decode file) a b) e)) in
         record { answer = rw ten; nested = λ z. absurd (omega arith) }
 
     pub plain-found : {m : Model} (set left : ℕ) → Admitted file a b m → under ceiling (plainRun (decode file) a b) ≡ outcome.Settled set left
-        → PlainSays file a b ceiling (Found set (ceiling - left))
+        → PlainSays file a b ceiling (judgement.Found set (ceiling - left))
     unfolding plainNumber
     plain-found set left ad e =
         let run : Run ℕ = plainRun (decode file) a b in
@@ -74,5 +92,71 @@ module _ (file : List ℕ) (a b : ℕ) where
         let zero-number : plainNumber file a b ceiling ≡ 0 = after-bounds file a b ceilingChecks (ad .number) ∙ rw (le-ltb ceiling (run .queries) few) in
         record {
           answer = rw zero-number (ap₂ judged (sym (f .value)) (omega arith));
-          nested = λ z. sym (f .value) ∙ plain-is-nested (decode file) a b ?range2;
+          nested = λ z. sym (f .value) ∙ plain-is-nested (decode file) a b (ad .range);
+        }
+
+  -- what an evaluator over two trees gives, for the file's own system
+  restricted-outcome : {m : Model} {set count : ℕ} (xs u v : List ℕ) → Admitted file a b m
+      → set ≡ restrictedFrom (systemIn file m) (m .levels) (above m (m .levels) xs) a b u v → count ≡ queriesFrom (systemIn file m) (m .levels) u v
+      → judged set count ≡ judged (restrictedSet (decode file) a b u v) (restrictedCount (decode file) u v)
+  restricted-outcome {m} xs u v ad es ec =
+      ap₂ judged
+      (es ∙ ap (λ (ys : List ℕ). restrictedFrom (systemIn file m) (m .levels) ys a b u v) (above-none m xs) ∙ ap (λ (s : System). restrictedSet s a b u v) (ad .system))
+      (ec ∙ ap (λ (s : System). restrictedCount s u v) (ad .system))
+
+  -- judging by built-in trees
+  pub built-refused : {e : Refusal} → RefusedAs (builtNumber file a b) e → BuiltSays file a b (judgement.Refused e)
+  built-refused h =
+      let never : builtNumber file a b ≡ 0 → ⊥ = λ z. let p : 0 < builtNumber file a b = h .positive in omega arith in
+      record { answer = sym (handed-on-bounds file a b _ h); product = λ z. absurd (never z); nested = λ z. absurd (never z) }
+
+  pub built-found : {m : Model} (r : Found) (xs : List ℕ) → Admitted file a b m
+      → (let s = systemIn file m in
+      let u = builtLeast s (m .lines) in
+      let v = builtGreatest s (m .lines) in
+      Gives r (restrictedFrom s (m .levels) (above m (m .levels) xs) a b u v) (queriesFrom s (m .levels) u v))
+      → BuiltSays file a b (judgement.Found (r .set) (r .count))
+  built-found {m} r xs ad g =
+      let over : System → Answer = λ s. judged (restrictedSet s a b (builtLeast s (s .lines)) (builtGreatest s (s .lines))) (restrictedCount s (builtLeast s (s .lines)) (builtGreatest s (s .lines))) in
+      let own : judged (r .set) (r .count) ≡ over (systemIn file m)
+      = ap₂ judged (g .value ∙ ap (λ (ys : List ℕ). restrictedFrom (systemIn file m) (m .levels) ys a b (builtLeast (systemIn file m) (m .lines)) (builtGreatest (systemIn file m) (m .lines))) (above-none m xs)) (g .queries) in
+      let same : judged (r .set) (r .count) ≡ over (decode file) = own ∙ ap over (ad .system) in
+      record {
+        answer = rw (ad .number) same;
+        product = λ z. ap (λ (x : Answer). x .count) same ∙ built-product (decode file) (decode file .lines) (decode file .lines) (ad .some-line) (ad .some-line);
+        nested = λ z. ap (λ (x : Answer). x .set) same ∙ built-nested (decode file) a b (ad .range) (ad .some-line);
+      }
+
+  -- judging by lent trees
+  module _ (u v : List ℕ) where
+    pub lent-refused : {e : Refusal} → RefusedAs (builtNumber file a b) e → LentSays file a b u v (judgement.Refused e)
+    unfolding lentNumber
+    lent-refused h =
+        let never : firstOf (boundChecks file a b ++ treeChecks file u v) ≡ 0 → ⊥ = still-refused (treeChecks file u v) h in
+        record { answer = sym (handed-on file a b (treeChecks file u v) _ h); product = λ z. absurd (never z); nested = λ z. absurd (never z) }
+
+    -- a bad tree; the first is looked at first
+    pub lent-bad : {m : Model} (p q : Bool) → Admitted file a b m → badTree (leastLevels (decode file)) u ≡ p → badTree (greatestLevels (decode file)) v ≡ q → (p || q) ≡ true
+        → LentSays file a b u v (judgement.Refused Tree)
+    unfolding lentNumber
+    lent-bad p q ad hp hq bad =
+        let eleven : lentNumber file a b u v ≡ 11 = after-bounds file a b (treeChecks file u v) (ad .number) ∙ rw (hp, hq) (either p q bad) in
+        record { answer = rw eleven; product = λ z. absurd (omega arith); nested = λ z. absurd (omega arith) }
+      where
+        either : (p q : Bool) → (p || q) ≡ true → _≡_ {A = ℕ} (cond p 11 (cond q 11 0)) 11
+        either true q e = refl
+        either false true e = refl
+        either false false e = absurd (true≢false (sym e))
+
+    pub lent-found : {m : Model} (r : Found) (xs : List ℕ) → Admitted file a b m → badTree (leastLevels (decode file)) u ≡ false → badTree (greatestLevels (decode file)) v ≡ false
+        → Gives r (restrictedFrom (systemIn file m) (m .levels) (above m (m .levels) xs) a b u v) (queriesFrom (systemIn file m) (m .levels) u v)
+        → LentSays file a b u v (judgement.Found (r .set) (r .count))
+    unfolding lentNumber
+    lent-found {m} r xs ad hp hq g =
+        let zero-number : lentNumber file a b u v ≡ 0 = after-bounds file a b (treeChecks file u v) (ad .number) ∙ rw (hp, hq) in
+        let same : judged (r .set) (r .count) ≡ judged (restrictedSet (decode file) a b u v) (restrictedCount (decode file) u v) = restricted-outcome xs u v ad (g .value) (g .queries) in
+        record {
+          answer = rw zero-number same;
+          product = λ z. ap (λ (x : Answer). x .count) same ∙ lent-product (decode file) u v (good-tree (leastLevels (decode file)) u hp .tree) (good-tree (greatestLevels (decode file)) v hq .tree);
+          nested = λ z pu pv. ap (λ (x : Answer). x .set) same ∙ lent-nested (decode file) a b (ad .range) u v pu pv;
         }

@@ -9,7 +9,7 @@ use Rattle.trees.specs.Tree.{leaves}
 use Rattle.trees.specs.Fit.{Universal}
 use Rattle.trees.specs.Built.{leafCount}
 use Rattle.fixpoint.specs.Plain.{Run}
-use Rattle.model.specs.File.{linesIn, decode}
+use Rattle.model.specs.File.{decode}
 use Rattle.model.specs.declared.layout.Reading.{Reading}
 use Rattle.model.specs.declared.layout.Reading.the-variants as reading
 use Rattle.routes.specs.Routes.{leastLevels, greatestLevels, builtLeast, builtGreatest, nestedSet, plainRun, restrictedSet, restrictedCount}
@@ -44,14 +44,14 @@ pub record PlainSays (file : List ℕ) (a b ceiling : ℕ) (r : Judged) : Type 0
 abbrev pub builtAnswer : List ℕ → ℕ → ℕ → Answer
 builtAnswer file a b =
     let s = decode file in
-    let u = builtLeast s (linesIn file) in
-    let v = builtGreatest s (linesIn file) in
+    let u = builtLeast s (s .lines) in
+    let v = builtGreatest s (s .lines) in
     unless (builtNumber file a b) (judged (restrictedSet s a b u v) (restrictedCount s u v))
 
 pub record BuiltSays (file : List ℕ) (a b : ℕ) (r : Judged) : Type 0 where
   pub answer : judgedAnswer r ≡ builtAnswer file a b
   -- an accepted count is the product of the two trees' leaves, and an accepted set is the nested fixpoint
-  pub product : builtNumber file a b ≡ 0 → judgedAnswer r .count ≡ leafCount (linesIn file) (leastLevels (decode file)) * leafCount (linesIn file) (greatestLevels (decode file))
+  pub product : builtNumber file a b ≡ 0 → judgedAnswer r .count ≡ leafCount (decode file .lines) (leastLevels (decode file)) * leafCount (decode file .lines) (greatestLevels (decode file))
   pub nested : builtNumber file a b ≡ 0 → judgedAnswer r .set ≡ nestedSet (decode file) a b
 
 -- judging by lent trees
@@ -62,5 +62,5 @@ pub record LentSays (file : List ℕ) (a b : ℕ) (u v : List ℕ) (r : Judged) 
   pub answer : judgedAnswer r ≡ lentAnswer file a b u v
   -- an accepted count is the product of the two trees' leaves, whatever the trees; over universal trees an accepted set is the nested fixpoint
   pub product : lentNumber file a b u v ≡ 0 → judgedAnswer r .count ≡ leaves u * leaves v
-  pub nested : lentNumber file a b u v ≡ 0 → Universal (linesIn file) (leastLevels (decode file)) u → Universal (linesIn file) (greatestLevels (decode file)) v
+  pub nested : lentNumber file a b u v ≡ 0 → Universal (decode file .lines) (leastLevels (decode file)) u → Universal (decode file .lines) (greatestLevels (decode file)) v
       → judgedAnswer r .set ≡ nestedSet (decode file) a b

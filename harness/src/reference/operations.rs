@@ -108,8 +108,7 @@ pub fn lent(file: &[u8], a: u64, b: u64, u: &[u8], v: &[u8]) -> Answer {
     if u.len() > 1023 || v.len() > 1023 {
         return Answer::refused(11);
     }
-    let trees =
-        (Tree::from_gaps(model.least_levels(), u), Tree::from_gaps(model.greatest_levels(), v));
+    let trees = (Tree::from_gaps(model.least_levels(), u), Tree::from_gaps(model.greatest_levels(), v));
     let (Some(u), Some(v)) = trees else {
         return Answer::refused(11);
     };

@@ -1,18 +1,30 @@
+-- `solver::count_least` meets its contract. The loop's invariant: the count is that of the levels passed. The measure is the levels left.
+-- Assumes nothing.
+use mathlib.Core.Bool.{not}
+use mathlib.Core.Logic.{⊎-elim}
+use mathlib.Core.Path.{_≡_, refl, sym, _∙_, ap}
+use Prim.Native.Nat.{ℕ, suc, _+_, _-_, _≤_}
+use native.Mathlib.Numerals.{add-one}
+use native.Mathlib.Omega.{arith}
+use borrow.Author.Tests.{not-true, not-false}
+use denote.Ref.{now}
+use Rattle.fixpoint.specs.Levels.{least-levels}
+use Rattle.fixpoint.proofs.Levels.{least-at-least, least-at-greatest}
+use Rattle.model.specs.System.{sign}
+use Rattle.routes.specs.Parts.{systemIn, leastOf}
 use borrow.Author.Needs.{needs}
 use Rattle.solver.proofs.count_least.Statement.{statement}
 use Rattle.solver.proofs.count_least.Tie as tie
-use Rattle.solver.proofs.count_least.Reads as reads
-use Rattle.solver.proofs.count_least.Lts as lts
-use Rattle.routes.proofs.is_greatest.Reads as is-greatest-reads
 
 abbrev Inv-loop : tie.InvT-loop
-Inv-loop file m d least₀ k₀ least k = ?
+Inv-loop file m d least₀ k₀ least k = (k ≤ d) × (least ≤ k) × (least ≡ leastOf (systemIn file m) k)
 
 abbrev μ-loop : tie.MeasureT-loop
-μ-loop file m d least₀ k₀ least k = ?
+μ-loop file m d least₀ k₀ least k = d - k
 
 loop-holds : tie.Need-loop-holds Inv-loop μ-loop
-loop-holds c = search needs
+unfolding least-levels
+loop-holds c = (omega arith, omega arith, refl)
 
 is-greatest-requires : tie.Need-is-greatest-requires Inv-loop μ-loop
 is-greatest-requires c κs = search needs
@@ -27,10 +39,25 @@ loop-less : tie.Need-loop-less Inv-loop μ-loop
 loop-less c = search needs
 
 loop-again : tie.Need-loop-again Inv-loop μ-loop
-loop-again c = search needs
+loop-again c =
+    let start = c .before .before .before .before .before in
+    let l = c .before .before .before .loop in
+    let sys = systemIn (now (start .args .file)) (start .args .m) in
+    let told = c .before .is-greatest .ensures in
+    let so-far : l .least ≡ leastOf sys (l .k) = l .inv .2 in (
+      omega arith,
+      ⊎-elim (λ w. omega arith) (λ w. omega arith) (c .if1 .came),
+      ⊎-elim
+          (λ w. w .1 ∙ ap (λ (n : ℕ). n + 1) so-far ∙ add-one _ ∙ sym (ap (leastOf sys) (add-one (l .k)) ∙ least-at-least (sign sys) (l .k) (sym told ∙ not-true _ (w .0 .taken))))
+          (λ w. w .1 ∙ so-far ∙ sym (ap (leastOf sys) (add-one (l .k)) ∙ least-at-greatest (sign sys) (l .k) (sym told ∙ not-false _ (w .0 .left))))
+          (c .if1 .came),
+    )
 
 returns : tie.Need-returns Inv-loop μ-loop
-returns c = search needs
+returns c =
+    let start = c .before .before .before in
+    let all : c .before .loop .k ≡ start .args .m .levels = omega arith in
+    c .before .loop .inv .2 ∙ ap (leastOf (systemIn (now (start .args .file)) (start .args .m))) all
 
 pub count-least-spec : {M : Type 1} → statement M
 count-least-spec =

@@ -1,0 +1,35 @@
+//! The benchmark's Rust implementation against the reference, so that the benchmark compares equal work.
+
+use harness::random::{self, Random};
+use harness::{baseline, reference};
+
+#[test]
+fn the_baseline_judges_as_the_reference_does() {
+    let mut random = Random::new(901);
+    let mut seen = [0; 12];
+    for _ in 0..5000 {
+        let (n, d) = (random.between(1, 64), random.between(1, 8));
+        let (n, d) = if random.chance(80) { (n.min(8), d.min(3)) } else { (n, d) };
+        let case = random::troubled_case(&mut random, n, d);
+        let (file, a, b) = (&case.file, case.a, case.b);
+        let heights = [case.model.least_levels(), case.model.greatest_levels()];
+        let mut trees = heights.map(|h| random::tree(&mut random, h, 20));
+        if random.chance(20) {
+            let side = random.between(0, 1);
+            trees[side] = random::bad_tree(&mut random, heights[side]);
+        }
+        let [u, v] = &trees;
+        let lent = baseline::lent(file, a, b, u, v);
+        assert_eq!(lent, reference::lent(file, a, b, u, v), "{trees:?} {case:?}");
+        let plain = baseline::plain(file, a, b, 100);
+        assert_eq!(plain, reference::plain(file, a, b, 100), "{case:?}");
+        if n <= 8 {
+            assert_eq!(baseline::built(file, a, b), reference::built(file, a, b), "{case:?}");
+        }
+        seen[lent.number as usize] += 1;
+        seen[plain.number as usize] += 1;
+    }
+    for (number, &times) in seen.iter().enumerate() {
+        assert!(times >= 50, "number {number} came up {times} times only");
+    }
+}

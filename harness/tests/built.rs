@@ -1,0 +1,128 @@
+//! Judging by built-in trees against the reference.
+
+use harness::random::{self, full, Case, Density, Random};
+use harness::reference::game::winning_lines;
+use harness::reference::nested::nested;
+use harness::reference::{word_of, Model, Tree};
+use harness::{ffi, reference, Answer};
+
+/// The queries of the built-in trees of a model: the product of their leaves.
+fn queries(model: &Model) -> u64 {
+    let leaves = |h| Tree::built_in(model.lines(), h).leaf_count();
+    leaves(model.least_levels()) * leaves(model.greatest_levels())
+}
+
+/// A case of this size whose built-in trees make at most so many queries.
+fn case_within(random: &mut Random, n: usize, d: usize, most: u64) -> Case {
+    loop {
+        let case = random::case(random, n, d);
+        if queries(&case.model) <= most {
+            return case;
+        }
+    }
+}
+
+fn judge(case: &Case) -> Answer {
+    ffi::built(&case.file, case.a, case.b)
+}
+
+#[test]
+fn small_models_have_the_nested_fixpoint_by_its_definition() {
+    let mut random = Random::new(501);
+    let mut between = 0;
+    for _ in 0..2000 {
+        let case = random::small_case(&mut random);
+        let (a, b) = case.bounds();
+        let set = nested(&case.model, &a, &b);
+        let expected = Answer::judged(word_of(&set), queries(&case.model));
+        assert_eq!(judge(&case), expected, "{case:?}");
+        between += (set != a && set != b) as usize;
+    }
+    assert!(between > 300, "only {between} sets strictly between their bounds");
+}
+
+#[test]
+fn every_size_has_the_restricted_set_over_the_trees_nodes() {
+    let mut random = Random::new(502);
+    for n in 1..=64 {
+        for d in 1..=8 {
+            // With all levels of one sign even 64 lines and 8 levels make 33,461 queries only.
+            let case = case_within(&mut random, n, d, 34_000);
+            let expected = reference::built(&case.file, case.a, case.b);
+            assert_eq!(judge(&case), expected, "{case:?}");
+        }
+    }
+}
+
+#[test]
+fn larger_models_have_the_winning_lines_of_their_game() {
+    let mut random = Random::new(503);
+    let mut between = 0;
+    for round in 0..400 {
+        let (n, d) = (random.between(5, 64), random.between(2, 8));
+        let mut case = case_within(&mut random, n, d, 200_000);
+        if round % 2 == 0 {
+            (case.a, case.b) = (0, full(n));
+        }
+        let (a, b) = case.bounds();
+        let set = winning_lines(&case.model, &a, &b);
+        let expected = Answer::judged(word_of(&set), queries(&case.model));
+        assert_eq!(judge(&case), expected, "{case:?}");
+        between += (set != a && set != b) as usize;
+    }
+    assert!(between > 100, "only {between} sets strictly between their bounds");
+}
+
+#[test]
+fn lower_bound_models_are_judged_too() {
+    let mut random = Random::new(504);
+    for n in [1, 2, 3, 4, 7, 8, 15, 16, 31, 32, 48, 63, 64] {
+        for h in 1..=3 {
+            let case = Case::new(random::hard_model(&mut random, n, h), (0, full(n)));
+            let (a, b) = case.bounds();
+            let set = winning_lines(&case.model, &a, &b);
+            let expected = Answer::judged(word_of(&set), queries(&case.model));
+            assert_eq!(judge(&case), expected, "{case:?}");
+        }
+    }
+}
+
+#[test]
+fn the_largest_run_is_judged() {
+    let mut random = Random::new(505);
+    let signs = random::alternating(8, false);
+    let case = Case::new(random::model(&mut random, 64, &signs, Density::Few), (0, full(64)));
+    let (a, b) = case.bounds();
+    let set = winning_lines(&case.model, &a, &b);
+    assert!(set != a && set != b);
+    // Of all signs, four least and four greatest levels make the most queries.
+    assert_eq!(judge(&case), Answer::judged(word_of(&set), queries(&case.model)));
+}
+
+#[test]
+fn equal_bounds_are_the_set() {
+    let mut random = Random::new(506);
+    for _ in 0..300 {
+        let (n, d) = (random.between(1, 64), random.between(1, 8));
+        let mut case = case_within(&mut random, n, d, 34_000);
+        case.a = random.word() & full(n);
+        case.b = case.a;
+        assert_eq!(judge(&case), Answer::judged(case.a, queries(&case.model)), "{case:?}");
+    }
+}
+
+#[test]
+fn judging_by_built_in_trees_is_refused_in_order() {
+    let mut random = Random::new(507);
+    let mut seen = [0; 10];
+    for _ in 0..20_000 {
+        let (n, d) = (random.between(1, 6), random.between(1, 3));
+        let case = random::troubled_case(&mut random, n, d);
+        let answer = judge(&case);
+        assert_eq!(answer, reference::built(&case.file, case.a, case.b), "{case:?}");
+        seen[answer.number as usize] += 1;
+    }
+    for (number, &times) in seen.iter().enumerate() {
+        assert!(times >= 300, "number {number} came up {times} times only");
+    }
+}

@@ -1,0 +1,55 @@
+//! The deepest runs of the lent route: 8 levels, and 1,023 gaps on both sides. The engine calls itself once for each
+//! gap, and nothing in it bounds the stack, so the runs are made on stacks of known sizes.
+
+use std::thread;
+
+use harness::random::{self, Density, Random};
+use harness::reference::restricted::restricted;
+use harness::reference::{set_of, word_of, Model, Tree};
+use harness::{ffi, Answer};
+
+const GAPS: usize = 1023;
+const MIB: usize = 1 << 20;
+
+/// A model of three lines and eight levels of alternating signs, level 8 greatest or least.
+fn model(outermost_greatest: bool) -> Model {
+    let signs = random::alternating(8, !outermost_greatest);
+    random::model(&mut Random::new(801), 3, &signs, Density::Several)
+}
+
+/// Gaps of a tree of height 4 down whose last path every gap is met: all at the root, or falling to the leaves.
+fn deep_trees() -> [Vec<u8>; 2] {
+    let falling = (0..GAPS).map(|at| 4 - (4 * at / GAPS) as u8).collect();
+    [vec![4; GAPS], falling]
+}
+
+/// Judges on a thread with so much stack.
+fn judge_on(stack: usize, file: Vec<u8>, u: Vec<u8>, v: Vec<u8>) -> Answer {
+    let run = move || ffi::lent(&file, 0, 7, &u, &v);
+    thread::Builder::new().stack_size(stack).spawn(run).expect("a thread").join().expect("a run")
+}
+
+#[test]
+fn the_deepest_runs_end_on_a_main_threads_stack() {
+    for outermost_greatest in [false, true] {
+        let model = model(outermost_greatest);
+        for gaps in deep_trees() {
+            let tree = Tree::from_gaps(4, &gaps).unwrap();
+            let (set, count) = restricted(&model, &set_of(0, 3), &set_of(7, 3), &tree, &tree);
+            assert_eq!(count, 1024 * 1024);
+            let answer = judge_on(8 * MIB, model.file(), gaps.clone(), gaps);
+            assert_eq!(answer, Answer::judged(word_of(&set), count));
+        }
+    }
+}
+
+/// Rust gives its threads 2 MiB where nothing else is asked for; the benchmark prints how much is needed.
+#[test]
+fn the_deepest_runs_end_on_an_ordinary_threads_stack() {
+    for outermost_greatest in [false, true] {
+        for gaps in deep_trees() {
+            let answer = judge_on(2 * MIB, model(outermost_greatest).file(), gaps.clone(), gaps);
+            assert_eq!((answer.number, answer.count), (0, 1024 * 1024));
+        }
+    }
+}

@@ -1,0 +1,250 @@
+//! Reading and writing against the reference: answers, and every byte and word that was lent.
+
+use std::collections::BTreeMap;
+use std::fmt::Debug;
+
+use harness::random::{self, Random, Written, WRITTEN_DAMAGES};
+use harness::reference::model::Parts;
+use harness::{ffi, reference, Answer};
+
+/// A slice lent to an operation, with entries before and behind it that are none of the operation's business.
+#[derive(Clone, Debug, PartialEq)]
+struct Lent<T> {
+    entries: Vec<T>,
+}
+
+impl<T: Copy + Debug + PartialEq> Lent<T> {
+    const MARGIN: usize = 9;
+
+    /// A lent slice of this length; `fill` gives so many entries.
+    fn new(length: usize, mut fill: impl FnMut(usize) -> Vec<T>) -> Lent<T> {
+        Lent { entries: fill(length + 2 * Self::MARGIN) }
+    }
+
+    fn slice(&mut self) -> &mut [T] {
+        let end = self.entries.len() - Self::MARGIN;
+        &mut self.entries[Self::MARGIN..end]
+    }
+}
+
+/// Reads a file into slices of these lengths, by the engine and by the reference, and compares all they leave.
+fn read_both(random: &mut Random, file: &[u8], lengths: [usize; 3]) -> Answer {
+    let mut signs = Lent::new(lengths[0], |count| random.bytes(count));
+    let mut kinds = Lent::new(lengths[1], |count| random.bytes(count));
+    let mut words = Lent::new(lengths[2], |count| random.words(count));
+    let mut expected = (signs.clone(), kinds.clone(), words.clone());
+    let answer = ffi::read(file, signs.slice(), kinds.slice(), words.slice());
+    let (s, k, w) = (expected.0.slice(), expected.1.slice(), expected.2.slice());
+    assert_eq!(answer, reference::read(file, s, k, w), "{lengths:?} {file:?}");
+    assert_eq!((signs, kinds, words), expected, "{lengths:?} {file:?}");
+    answer
+}
+
+/// Writes into a buffer of this length, by the engine and by the reference, and compares all they leave.
+fn write_both(random: &mut Random, written: &Written, length: usize) -> Answer {
+    let Written { n, d, parts: Parts { signs, kinds, words } } = written;
+    let mut buffer = Lent::new(length, |count| random.bytes(count));
+    let mut expected = buffer.clone();
+    let answer = ffi::write(*n, *d, signs, kinds, words, buffer.slice());
+    let expected_answer = reference::write(*n, *d, signs, kinds, words, expected.slice());
+    assert_eq!(answer, expected_answer, "{length} {written:?}");
+    assert_eq!(buffer, expected, "{length} {written:?}");
+    answer
+}
+
+fn some_written(random: &mut Random, n: usize, d: usize) -> Written {
+    Written { n, d, parts: random::any_model(random, n, d).parts() }
+}
+
+fn file_length(n: usize, d: usize) -> usize {
+    16 + d + n + 8 * n * d
+}
+
+/// How often each number was answered.
+#[derive(Default)]
+struct Seen(BTreeMap<u64, usize>);
+
+impl Seen {
+    fn note(&mut self, answer: Answer) {
+        *self.0.entry(answer.number).or_default() += 1;
+    }
+
+    fn assert_each(&self, numbers: &[u64], least: usize) {
+        for number in numbers {
+            let times = self.0.get(number).copied().unwrap_or(0);
+            assert!(times >= least, "number {number} came up {times} times only");
+        }
+    }
+}
+
+#[test]
+fn every_size_is_read() {
+    let mut random = Random::new(201);
+    for n in 1..=64 {
+        for d in 1..=8 {
+            let file = random::any_model(&mut random, n, d).file();
+            for extra in [0, random.between(1, 40)] {
+                let answer = read_both(&mut random, &file, [d + extra, n + extra, n * d + extra]);
+                assert_eq!((answer.number, answer.lines, answer.levels), (0, n as u64, d as u64));
+            }
+        }
+    }
+}
+
+#[test]
+fn short_slices_are_refused_when_reading() {
+    let mut random = Random::new(202);
+    for _ in 0..500 {
+        let (n, d) = (random.between(1, 64), random.between(1, 8));
+        let file = random::any_model(&mut random, n, d).file();
+        let exact = [d, n, n * d];
+        for short in 0..3 {
+            for length in [0, exact[short] - 1, random.between(0, exact[short] - 1)] {
+                let mut lengths = exact.map(|length| length + random.between(0, 3));
+                lengths[short] = length;
+                assert_eq!(read_both(&mut random, &file, lengths).number, 12);
+            }
+        }
+    }
+}
+
+#[test]
+fn each_damage_of_a_file_has_its_number() {
+    let mut random = Random::new(203);
+    for _ in 0..300 {
+        for number in 1..=8 {
+            // Refusal 7 needs a line of n or more, and so fewer than 64 lines.
+            let (n, d) = (random.between(1, 63), random.between(1, 8));
+            let mut file = random::any_model(&mut random, n, d).file();
+            random::damage_file(&mut random, &mut file, n, d, number);
+            assert_eq!(read_both(&mut random, &file, [8, 64, 512]).number, number, "{file:?}");
+        }
+    }
+}
+
+#[test]
+fn the_first_of_several_refusals_answers_when_reading() {
+    let mut random = Random::new(204);
+    let mut seen = Seen::default();
+    for _ in 0..20_000 {
+        let (n, d) = (random.between(1, 64), random.between(1, 8));
+        let (n, d) = if random.chance(70) { (n.min(6), d.min(3)) } else { (n, d) };
+        let mut file = random::any_model(&mut random, n, d).file();
+        random::damage_file_often(&mut random, &mut file, n, d);
+        let lengths = if random.chance(30) {
+            [random.between(0, 8), random.between(0, 64), random.between(0, 512)]
+        } else {
+            [8, 64, 512]
+        };
+        seen.note(read_both(&mut random, &file, lengths));
+    }
+    seen.assert_each(&[1, 2, 3, 4, 5, 6, 7, 8], 500);
+}
+
+#[test]
+fn bytes_at_random_are_read_as_the_reference_does() {
+    let mut random = Random::new(205);
+    let mut seen = Seen::default();
+    for _ in 0..20_000 {
+        // A header that may pass, and then bytes that are small or not.
+        let (n, d) = (random.between(0, 3), random.between(0, 3));
+        let length = if random.chance(80) { file_length(n, d) } else { random.between(0, 300) };
+        let most = [1, 1, 2, 255][random.between(0, 3)];
+        let mut file: Vec<u8> = (0..length).map(|_| random.between(0, most) as u8).collect();
+        let header =
+            [n as u8, 0, d as u8, 0, 16, 0, 0, 0, 16 + d as u8, 0, 0, 0, (16 + d + n) as u8, 0, 0, 0];
+        let kept = length.min(16);
+        file[..kept].copy_from_slice(&header[..kept]);
+        for at in (16 + d + n..length).filter(|at| (at - 16 - d - n) % 8 > 0) {
+            if most < 255 {
+                file[at] = 0;
+            }
+        }
+        seen.note(read_both(&mut random, &file, [8, 64, 512]));
+    }
+    seen.assert_each(&[0, 1, 2, 3, 5, 6, 7, 8], 20);
+}
+
+#[test]
+fn every_size_is_written() {
+    let mut random = Random::new(206);
+    for n in 1..=64 {
+        for d in 1..=8 {
+            let written = some_written(&mut random, n, d);
+            let length = file_length(n, d);
+            for extra in [0, 1, random.between(2, 5000)] {
+                let answer = write_both(&mut random, &written, length + extra);
+                assert_eq!((answer.number, answer.length), (0, length as u64));
+            }
+            for short in [length - 1, random.between(0, length - 1), 0] {
+                assert_eq!(write_both(&mut random, &written, short).number, 12);
+            }
+        }
+    }
+}
+
+#[test]
+fn each_damage_has_its_number_when_writing() {
+    let mut random = Random::new(207);
+    for _ in 0..300 {
+        for number in WRITTEN_DAMAGES {
+            let (n, d) = (random.between(1, 63), random.between(1, 8));
+            let mut written = some_written(&mut random, n, d);
+            random::damage_written(&mut random, &mut written, number);
+            assert_eq!(write_both(&mut random, &written, 4184).number, number, "{written:?}");
+        }
+    }
+}
+
+#[test]
+fn the_first_of_several_refusals_answers_when_writing() {
+    let mut random = Random::new(208);
+    let mut seen = Seen::default();
+    for _ in 0..20_000 {
+        let (n, d) = (random.between(1, 64), random.between(1, 8));
+        let (n, d) = if random.chance(70) { (n.min(6), d.min(3)) } else { (n, d) };
+        let mut written = some_written(&mut random, n, d);
+        for number in WRITTEN_DAMAGES {
+            if random.chance(25) {
+                random::damage_written(&mut random, &mut written, number);
+            }
+        }
+        let length = if random.chance(50) { random.between(0, file_length(n, d)) } else { 4184 };
+        seen.note(write_both(&mut random, &written, length));
+    }
+    seen.assert_each(&[0, 2, 3, 13, 6, 7, 8, 12], 500);
+}
+
+#[test]
+fn what_was_written_is_read_back() {
+    let mut random = Random::new(209);
+    for n in 1..=64 {
+        for d in 1..=8 {
+            let Written { parts, .. } = some_written(&mut random, n, d);
+            let mut file = vec![0xee; file_length(n, d)];
+            let answer = ffi::write(n, d, &parts.signs, &parts.kinds, &parts.words, &mut file);
+            assert_eq!(answer.length, file.len() as u64);
+            let mut back = Parts { signs: vec![9; d], kinds: vec![9; n], words: vec![9; n * d] };
+            let answer = ffi::read(&file, &mut back.signs, &mut back.kinds, &mut back.words);
+            assert_eq!((answer.number, answer.lines, answer.levels), (0, n as u64, d as u64));
+            assert_eq!(back, parts);
+        }
+    }
+}
+
+#[test]
+fn what_was_read_is_written_back() {
+    let mut random = Random::new(210);
+    for n in 1..=64 {
+        for d in 1..=8 {
+            let file = random::any_model(&mut random, n, d).file();
+            let (mut signs, mut kinds, mut words) = ([9; 8], [9; 64], [9; 512]);
+            let read = ffi::read(&file, &mut signs, &mut kinds, &mut words);
+            assert_eq!((read.number, read.lines, read.levels), (0, n as u64, d as u64));
+            let mut back = vec![0xee; file.len()];
+            let answer = ffi::write(n, d, &signs[..d], &kinds[..n], &words[..n * d], &mut back);
+            assert_eq!(answer.length, file.len() as u64);
+            assert_eq!(back, file);
+        }
+    }
+}

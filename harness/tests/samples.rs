@@ -1,0 +1,137 @@
+//! Document 01's samples, with the numbers that it gives.
+
+use harness::random::{full, Density, Random};
+use harness::reference::{Model, Operand};
+use harness::{ffi, random, Answer};
+
+/// Model P: level 1 least, level 2 greatest; line 0 is all of (level 1, line 1), line 1 any of (level 2, line 0).
+const P: [u8; 52] = [
+    2, 0, 2, 0, 0x10, 0, 0, 0, 0x12, 0, 0, 0, 0x14, 0, 0, 0, // header
+    0, 1, // signs
+    1, 0, // kinds
+    2, 0, 0, 0, 0, 0, 0, 0, // line 0, level 1
+    0, 0, 0, 0, 0, 0, 0, 0, // line 0, level 2
+    0, 0, 0, 0, 0, 0, 0, 0, // line 1, level 1
+    1, 0, 0, 0, 0, 0, 0, 0, // line 1, level 2
+];
+
+/// Model Q: P with both signs turned over.
+fn q() -> [u8; 52] {
+    let mut file = P;
+    file[16..18].copy_from_slice(&[1, 0]);
+    file
+}
+
+/// One line, any of itself, one level.
+fn one_line(greatest: bool) -> Vec<u8> {
+    let operands = vec![vec![Operand { level: 0, line: 0 }]];
+    Model { greatest: vec![greatest], all: vec![false], operands }.file()
+}
+
+#[test]
+fn p_is_read_and_written() {
+    let (mut signs, mut kinds, mut words) = ([7; 3], [7; 3], [7; 5]);
+    let answer = ffi::read(&P, &mut signs, &mut kinds, &mut words);
+    assert_eq!(answer, Answer { lines: 2, levels: 2, ..Answer::default() });
+    assert_eq!((signs, kinds, words), ([0, 1, 7], [1, 0, 7], [2, 0, 0, 1, 7]));
+    let mut buffer = [7; 53];
+    let answer = ffi::write(2, 2, &[0, 1], &[1, 0], &[2, 0, 0, 1], &mut buffer);
+    assert_eq!(answer, Answer { length: 52, ..Answer::default() });
+    assert_eq!((&buffer[..52], buffer[52]), (&P[..], 7));
+}
+
+#[test]
+fn p_is_queried() {
+    // Line 0 reads line 1 of the first argument, line 1 reads line 0 of the second.
+    for (xs, set) in [([0, 0], 0), ([2, 0], 1), ([0, 1], 2), ([2, 1], 3), ([1, 2], 0)] {
+        assert_eq!(ffi::query(&P, &xs), Answer { set, ..Answer::default() });
+    }
+}
+
+#[test]
+fn p_and_q_between_empty_and_full() {
+    assert_eq!(ffi::plain(&P, 0, 3, 1_000_000), Answer::judged(3, 3));
+    assert_eq!(ffi::built(&P, 0, 3), Answer::judged(3, 4));
+    assert_eq!(ffi::plain(&q(), 0, 3, 1_000_000), Answer::judged(0, 3));
+    assert_eq!(ffi::built(&q(), 0, 3), Answer::judged(0, 4));
+}
+
+#[test]
+fn p_and_q_by_small_trees() {
+    assert_eq!(ffi::lent(&P, 0, 3, &[], &[]), Answer::judged(2, 1));
+    assert_eq!(ffi::lent(&P, 0, 3, &[1], &[]), Answer::judged(3, 2));
+    assert_eq!(ffi::lent(&q(), 0, 3, &[], &[]), Answer::judged(1, 1));
+}
+
+#[test]
+fn one_line_of_itself() {
+    assert_eq!(ffi::plain(&one_line(false), 0, 1, 1), Answer::judged(0, 1));
+    assert_eq!(ffi::plain(&one_line(true), 0, 1, 1), Answer::judged(1, 1));
+}
+
+#[test]
+fn p_between_equal_bounds() {
+    assert_eq!(ffi::plain(&P, 1, 1, 10).set, 1);
+    assert_eq!(ffi::built(&P, 1, 1).set, 1);
+    assert_eq!(ffi::lent(&P, 1, 1, &[], &[]).set, 1);
+}
+
+#[test]
+fn leaf_counts() {
+    for (n, h, count) in [(4, 2, 8), (8, 2, 21), (4, 3, 13), (64, 1, 64)] {
+        assert_eq!(ffi::leaf_count(n, h), Answer { count, ..Answer::default() });
+    }
+}
+
+#[test]
+fn s_of_2_and_of_3_have_their_gaps() {
+    // Two levels of each sign, so that both trees have height 2.
+    for (n, gaps) in [(2, &[2, 1][..]), (3, &[2, 1, 1, 2])] {
+        let mut random = Random::new(701);
+        for _ in 0..50 {
+            let model = random::model(&mut random, n, &[false, true, false, true], Density::Few);
+            let lent = ffi::lent(&model.file(), 0, full(n), gaps, gaps);
+            assert_eq!(lent, ffi::built(&model.file(), 0, full(n)), "{model:?}");
+            assert_eq!(lent.count, (gaps.len() as u64 + 1).pow(2));
+        }
+    }
+}
+
+#[test]
+fn ceilings_of_p() {
+    assert_eq!(ffi::plain(&P, 0, 3, 3).number, 0);
+    assert_eq!(ffi::plain(&P, 0, 3, 2), Answer::refused(10));
+    assert_eq!(ffi::plain(&P, 0, 3, 0), Answer::refused(10));
+}
+
+#[test]
+fn bounds_that_do_not_enclose() {
+    assert_eq!(ffi::plain(&P, 1, 2, 100), Answer::refused(9));
+    assert_eq!(ffi::built(&P, 1, 2), Answer::refused(9));
+    assert_eq!(ffi::lent(&P, 1, 2, &[], &[]), Answer::refused(9));
+}
+
+#[test]
+fn sizes_of_files() {
+    let check = |file: &[u8]| ffi::read(file, &mut [0; 8], &mut [0; 64], &mut [0; 512]).number;
+    let largest = random::any_model(&mut Random::new(702), 64, 8).file();
+    assert_eq!((largest.len(), check(&largest)), (4184, 0));
+    let with_counts = |n, d| {
+        let mut file = largest.clone();
+        (file[0], file[2]) = (n, d);
+        check(&file)
+    };
+    assert_eq!(with_counts(65, 8), 2);
+    assert_eq!(with_counts(65, 9), 2);
+    assert_eq!(with_counts(64, 9), 3);
+    assert_eq!(check(&P[..51]), 5);
+    assert_eq!(check(&P[..15]), 1);
+}
+
+#[test]
+fn sizes_of_lent_trees() {
+    assert_eq!(ffi::lent(&P, 0, 3, &[1; 1023], &[]), Answer::judged(3, 1024));
+    assert_eq!(ffi::lent(&P, 0, 3, &[1; 1024], &[]), Answer::refused(11));
+    assert_eq!(ffi::lent(&P, 0, 3, &[], &[1; 1023]).count, 1024);
+    assert_eq!(ffi::lent(&P, 0, 3, &[], &[1; 1024]), Answer::refused(11));
+}
