@@ -101,27 +101,20 @@ impl<'a> Model<'a> {
         (0..self.levels).filter(|&level| !self.is_greatest(level)).count()
     }
 
-    /// The "or" of the operands that the words from an offset on select. The first word with a set operand decides.
-    fn any_operand(self, at: usize, xs: &[u64; 8]) -> bool {
-        (0..self.levels).any(|k| u64_at(self.file, at + 8 * k) & xs[k] != 0)
-    }
-
-    /// The "and" of the same. The first word with an operand that is not set decides.
-    fn all_operands(self, at: usize, xs: &[u64; 8]) -> bool {
-        (0..self.levels).all(|k| u64_at(self.file, at + 8 * k) & !xs[k] == 0)
-    }
-
+    /// One query: the "or" or the "and" of each line's operands, up to the first word that decides it.
     fn query(self, xs: &[u64; 8]) -> u64 {
+        let kinds = &self.file[self.kinds_at()..self.words_at()];
+        let lines = self.file[self.words_at()..].chunks_exact(8 * self.levels);
         let mut set = 0;
-        let mut at = self.words_at();
-        for i in 0..self.lines {
-            let value = if self.file[self.kinds_at() + i] == 0 {
-                self.any_operand(at, xs)
+        for (i, (&kind, line)) in kinds.iter().zip(lines).enumerate() {
+            let words = line.chunks_exact(8).map(|bytes| u64_at(bytes, 0));
+            let mut pairs = words.zip(xs);
+            let value = if kind == 0 {
+                pairs.any(|(word, x)| word & x != 0)
             } else {
-                self.all_operands(at, xs)
+                pairs.all(|(word, x)| word & !x == 0)
             };
             set |= (value as u64) << i;
-            at += 8 * self.levels;
         }
         set
     }

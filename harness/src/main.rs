@@ -1,6 +1,6 @@
 //! Speed of the engine beside the same algorithm in safe Rust, both called in turn in one run.
 //!
-//! `cargo run --release` takes about two minutes, `cargo run --release -- --quick` some seconds.
+//! `cargo run --release` takes a minute or two, `cargo run --release -- --quick` some seconds.
 
 use std::hint::black_box;
 use std::process::{Command, Stdio};
@@ -13,12 +13,14 @@ use harness::{baseline, ffi, Answer};
 /// Where a plain run is cut off, so that each ends in reasonable time.
 const CEILING: u64 = 200_000;
 
-/// What is measured, and how long each time of it is.
+/// How much is measured.
 #[derive(Clone, Copy)]
 struct Effort {
+    /// Of each row; their median is printed.
     samples: usize,
+    /// That a sample takes at the least, by repeating the call.
     seconds: f64,
-    /// The most queries of a judgement that is measured.
+    /// Of a row; larger ones are left out.
     most_queries: u64,
 }
 
@@ -31,35 +33,48 @@ struct Times {
     rust: f64,
 }
 
-fn seconds_of(calls: usize, judge: &mut dyn FnMut() -> Answer) -> f64 {
-    let start = Instant::now();
-    for _ in 0..calls {
-        black_box(judge());
-    }
-    start.elapsed().as_secs_f64() / calls as f64
-}
-
 fn median(mut times: Vec<f64>) -> f64 {
     times.sort_by(f64::total_cmp);
     times[times.len() / 2]
 }
 
-/// Calls both in turn. A call that takes long is repeated less, three times at the least.
-fn measure(effort: Effort, engine: &mut dyn FnMut() -> Answer, rust: &mut dyn FnMut() -> Answer) -> Times {
-    let once = seconds_of(1, engine).max(1e-7);
-    let calls = (effort.seconds / once).ceil() as usize;
-    let samples = if once < 0.5 { effort.samples } else { 3 };
+/// The answer of so many calls, and the seconds that one took.
+fn timed(calls: usize, judge: &dyn Fn() -> Answer) -> (Answer, f64) {
+    let start = Instant::now();
+    for _ in 1..calls {
+        black_box(judge());
+    }
+    let answer = judge();
+    (answer, start.elapsed().as_secs_f64() / calls as f64)
+}
+
+/// Calls both in turn. What takes long is repeated less, but is called three times at the least.
+fn measure(effort: Effort, engine: &dyn Fn() -> Answer, rust: &dyn Fn() -> Answer) -> (Answer, Times) {
+    let (answer, engine_first) = timed(1, engine);
+    let (rust_answer, rust_first) = timed(1, rust);
+    assert_eq!(answer, rust_answer, "the engine and Rust judge differently");
+    let calls = (effort.seconds / engine_first).ceil() as usize;
     let (mut engine_times, mut rust_times) = (Vec::new(), Vec::new());
-    for sample in 0..samples {
-        if sample % 2 == 0 {
-            engine_times.push(seconds_of(calls, engine));
-            rust_times.push(seconds_of(calls, rust));
+    let mut samples = effort.samples;
+    if engine_first > 0.05 {
+        samples = 5;
+    }
+    if engine_first > 0.5 {
+        samples = 3;
+        engine_times.push(engine_first);
+        rust_times.push(rust_first);
+    }
+    while engine_times.len() < samples {
+        // The other one first every other time.
+        if engine_times.len() % 2 == 0 {
+            engine_times.push(timed(calls, engine).1);
+            rust_times.push(timed(calls, rust).1);
         } else {
-            rust_times.push(seconds_of(calls, rust));
-            engine_times.push(seconds_of(calls, engine));
+            rust_times.push(timed(calls, rust).1);
+            engine_times.push(timed(calls, engine).1);
         }
     }
-    Times { engine: median(engine_times), rust: median(rust_times) }
+    (answer, Times { engine: median(engine_times), rust: median(rust_times) })
 }
 
 #[derive(Clone, Copy, Debug, PartialEq)]
@@ -87,14 +102,14 @@ struct Subject {
     file: Vec<u8>,
     u: Vec<u8>,
     v: Vec<u8>,
-    /// The queries that the built-in trees make.
     built_queries: u64,
+    lent_queries: u64,
 }
 
 /// The built-in tree of height h for the most lines, n at most, that may be lent.
 fn largest_lent(n: usize, h: usize) -> Vec<u8> {
-    let gaps = (1..=n).rev().map(|lines| Tree::built_in(lines, h).gaps());
-    gaps.filter(|gaps| gaps.len() <= 1023).next().expect("S(1, h) has one leaf")
+    let mut trees = (1..=n).rev().map(|lines| Tree::built_in(lines, h).gaps());
+    trees.find(|gaps| gaps.len() <= 1023).expect("S(1, h) has one leaf")
 }
 
 impl Subject {
@@ -102,14 +117,16 @@ impl Subject {
         let (lines, levels) = (model.lines(), model.levels());
         let (least, greatest) = (model.least_levels(), model.greatest_levels());
         let leaves = |h| Tree::built_in(lines, h).leaf_count();
+        let (u, v) = (largest_lent(lines, least), largest_lent(lines, greatest));
         Subject {
             name,
             lines,
             levels,
             file: model.file(),
-            u: largest_lent(lines, least),
-            v: largest_lent(lines, greatest),
             built_queries: leaves(least) * leaves(greatest),
+            lent_queries: ((u.len() + 1) * (v.len() + 1)) as u64,
+            u,
+            v,
         }
     }
 
@@ -183,14 +200,17 @@ fn heading(title: &str) {
 
 /// Measures one row and prints it, with the engine's time as a multiple of the row's before. Gives that time.
 fn row(effort: Effort, subject: &Subject, route: Route, before: Option<f64>) -> Option<f64> {
-    if route == Route::Built && subject.built_queries > effort.most_queries {
+    let most = match route {
+        Route::Built => subject.built_queries,
+        Route::Lent => subject.lent_queries,
+        Route::Plain => CEILING,
+    };
+    if most > effort.most_queries {
         return None;
     }
-    let answer = subject.engine(route);
-    assert_eq!(answer, subject.rust(route), "the engine and Rust judge differently");
+    let (answer, times) = measure(effort, &|| subject.engine(route), &|| subject.rust(route));
     // A plain run that was cut off has made as many queries as it may.
     let queries = if answer.number == 10 { CEILING } else { answer.count };
-    let times = measure(effort, &mut || subject.engine(route), &mut || subject.rust(route));
     let rate = |seconds: f64| queries as f64 / seconds / 1e6;
     println!(
         "{:5} {:5} {:6} {:6} {:9} {:>9} {:>9} {:6.2} {:6.2} {:6.2} {:>6}",
@@ -256,38 +276,25 @@ fn print_stacks() {
     }
 }
 
-fn main() {
-    let arguments: Vec<String> = std::env::args().skip(1).collect();
-    if let [option, who, kib] = &arguments[..] {
-        if option == "--stack" {
-            let engine = who == "engine";
-            let stack = 1024 * kib.parse::<usize>().expect("a number of KiB");
-            let thread = std::thread::Builder::new().stack_size(stack).spawn(move || deepest_run(engine));
-            assert_eq!(thread.expect("a thread").join().expect("a run"), 1024 * 1024);
-            return;
-        }
-    }
-    let effort = match &arguments.iter().map(String::as_str).collect::<Vec<_>>()[..] {
-        [] => FULL,
-        ["--quick"] => QUICK,
-        _ => {
-            eprintln!("usage: harness [--quick]");
-            std::process::exit(2);
-        }
-    };
+/// Ends without an error if the deepest run does so on a thread with this stack.
+fn run_on(who: &str, kib: &str) {
+    let engine = who == "engine";
+    let stack = 1024 * kib.parse::<usize>().expect("a number of KiB");
+    let thread = std::thread::Builder::new().stack_size(stack).spawn(move || deepest_run(engine));
+    assert_eq!(thread.expect("a thread").join().expect("a run"), 1024 * 1024);
+}
 
+fn benchmark(effort: Effort) {
     println!("Time of one judgement between empty and full, the engine's and Rust's, the median of");
-    println!("several calls in turn; millions of queries a second; ratio: engine's time / Rust's.");
+    println!("several calls in turn; millions of queries a second; ratio: engine's time / Rust's;");
+    println!("growth: engine's time / the row's before. Signs and kinds alternate.");
 
-    for route in [Route::Built, Route::Lent, Route::Plain] {
-        heading(&format!(
-            "{} at 64 lines, signs alternating",
-            match route {
-                Route::Built => "by built-in trees",
-                Route::Lent => "by lent trees (the largest built-in ones that may be lent)",
-                Route::Plain => "plainly, ceiling 200,000",
-            }
-        ));
+    for (route, title) in [
+        (Route::Built, "by built-in trees, 64 lines"),
+        (Route::Lent, "by lent trees, 64 lines (the largest built-in trees that may be lent)"),
+        (Route::Plain, "plainly, 64 lines, ceiling 200,000"),
+    ] {
+        heading(title);
         for levels in [2, 4, 6, 8] {
             row(effort, &Subject::dense(64, levels), route, None);
             row(effort, &Subject::sparse(64, levels), route, None);
@@ -297,16 +304,16 @@ fn main() {
         }
     }
 
+    heading("growth with the lines, 4 levels");
     for route in [Route::Built, Route::Lent, Route::Plain] {
-        heading("growth with the lines at 4 levels");
         let mut before = None;
         for lines in [8, 16, 32, 64] {
             before = row(effort, &Subject::sparse(lines, 4), route, before);
         }
     }
 
+    heading("growth with the levels, 16 lines");
     for route in [Route::Built, Route::Lent, Route::Plain] {
-        heading("growth with the levels at 16 lines");
         let mut before = None;
         for levels in 1..=8 {
             before = row(effort, &Subject::sparse(16, levels), route, before);
@@ -314,4 +321,17 @@ fn main() {
     }
 
     print_stacks();
+}
+
+fn main() {
+    let arguments: Vec<String> = std::env::args().skip(1).collect();
+    match arguments.iter().map(String::as_str).collect::<Vec<_>>()[..] {
+        [] => benchmark(FULL),
+        ["--quick"] => benchmark(QUICK),
+        ["--stack", who, kib] => run_on(who, kib),
+        _ => {
+            eprintln!("usage: harness [--quick]");
+            std::process::exit(2);
+        }
+    }
 }

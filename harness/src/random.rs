@@ -162,7 +162,7 @@ pub fn hard_model(random: &mut Random, n: usize, h: usize) -> Model {
 
 /// A model of n lines and d levels of any of these sorts.
 pub fn any_model(random: &mut Random, n: usize, d: usize) -> Model {
-    if d % 2 == 0 && random.chance(25) {
+    if d.is_multiple_of(2) && random.chance(25) {
         return hard_model(random, n, d / 2);
     }
     let signs = signs(random, d);

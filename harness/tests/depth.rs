@@ -17,10 +17,11 @@ fn model(outermost_greatest: bool) -> Model {
     random::model(&mut Random::new(801), 3, &signs, Density::Several)
 }
 
-/// Gaps of a tree of height 4 down whose last path every gap is met: all at the root, or falling to the leaves.
-fn deep_trees() -> [Vec<u8>; 2] {
+/// Gaps of trees of height 4. On the way to the last leaf of the first two every gap is met: all stand at the root, or
+/// they fall towards the leaves. The third has any gaps.
+fn full_trees() -> [Vec<u8>; 3] {
     let falling = (0..GAPS).map(|at| 4 - (4 * at / GAPS) as u8).collect();
-    [vec![4; GAPS], falling]
+    [vec![4; GAPS], falling, random::gaps(&mut Random::new(802), 4, GAPS)]
 }
 
 /// Judges on a thread with so much stack.
@@ -33,7 +34,7 @@ fn judge_on(stack: usize, file: Vec<u8>, u: Vec<u8>, v: Vec<u8>) -> Answer {
 fn the_deepest_runs_end_on_a_main_threads_stack() {
     for outermost_greatest in [false, true] {
         let model = model(outermost_greatest);
-        for gaps in deep_trees() {
+        for gaps in full_trees() {
             let tree = Tree::from_gaps(4, &gaps).unwrap();
             let (set, count) = restricted(&model, &set_of(0, 3), &set_of(7, 3), &tree, &tree);
             assert_eq!(count, 1024 * 1024);
@@ -47,7 +48,7 @@ fn the_deepest_runs_end_on_a_main_threads_stack() {
 #[test]
 fn the_deepest_runs_end_on_an_ordinary_threads_stack() {
     for outermost_greatest in [false, true] {
-        for gaps in deep_trees() {
+        for gaps in full_trees() {
             let answer = judge_on(2 * MIB, model(outermost_greatest).file(), gaps.clone(), gaps);
             assert_eq!((answer.number, answer.count), (0, 1024 * 1024));
         }

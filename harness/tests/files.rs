@@ -146,19 +146,18 @@ fn bytes_at_random_are_read_as_the_reference_does() {
     let mut random = Random::new(205);
     let mut seen = Seen::default();
     for _ in 0..20_000 {
-        // A header that may pass, and then bytes that are small or not.
         let (n, d) = (random.between(0, 3), random.between(0, 3));
-        let length = if random.chance(80) { file_length(n, d) } else { random.between(0, 300) };
+        let mut file = vec![n as u8, 0, d as u8, 0, 16, 0, 0, 0];
+        file.extend([16 + d as u8, 0, 0, 0, (16 + d + n) as u8, 0, 0, 0]);
+        // Bytes up to 1 or 2 may be signs and kinds; words with one such byte may select lines there are.
         let most = [1, 1, 2, 255][random.between(0, 3)];
-        let mut file: Vec<u8> = (0..length).map(|_| random.between(0, most) as u8).collect();
-        let header =
-            [n as u8, 0, d as u8, 0, 16, 0, 0, 0, 16 + d as u8, 0, 0, 0, (16 + d + n) as u8, 0, 0, 0];
-        let kept = length.min(16);
-        file[..kept].copy_from_slice(&header[..kept]);
-        for at in (16 + d + n..length).filter(|at| (at - 16 - d - n) % 8 > 0) {
-            if most < 255 {
-                file[at] = 0;
-            }
+        file.extend((0..d + n).map(|_| random.between(0, most) as u8));
+        for _ in 0..n * d {
+            let word = if most == 255 { random.word() } else { random.between(0, most) as u64 };
+            file.extend(word.to_le_bytes());
+        }
+        if random.chance(20) {
+            file.truncate(random.between(0, file.len()));
         }
         seen.note(read_both(&mut random, &file, [8, 64, 512]));
     }

@@ -117,6 +117,7 @@ fn lower_bound_models_need_a_tree_in_which_theirs_fits() {
 #[test]
 fn the_built_in_trees_can_be_lent() {
     let mut random = Random::new(605);
+    let mut lent = 0;
     for _ in 0..300 {
         let (n, d) = (random.between(1, 64), random.between(1, 8));
         let case = random::case(&mut random, n, d);
@@ -125,8 +126,10 @@ fn the_built_in_trees_can_be_lent() {
         if u.len() <= 1023 && v.len() <= 1023 && (u.len() + 1) * (v.len() + 1) <= 200_000 {
             let answer = ffi::lent(&case.file, case.a, case.b, &u, &v);
             assert_eq!(answer, ffi::built(&case.file, case.a, case.b), "{case:?}");
+            lent += 1;
         }
     }
+    assert!(lent > 100, "only {lent} pairs of trees could be lent");
 }
 
 #[test]

@@ -1,6 +1,6 @@
 -- Lists whose entries are all below a bound, as the bytes and the words of a slice are.
 -- Assumes nothing.
-use mathlib.Core.List.{List, [], _∷_, _++_}
+use mathlib.Core.List.{List, [], _∷_}
 use Prim.Native.Nat.{ℕ, zero, suc, _<_}
 use lib.ListN.{getD, take, drop}
 
@@ -23,7 +23,3 @@ module _ {b : ℕ} where
   below-drop zero h = h
   below-drop (suc n) none = none
   below-drop (suc n) (more p h) = below-drop n h
-
-  pub below-append : {xs ys : List ℕ} → AllBelow b xs → AllBelow b ys → AllBelow b (xs ++ ys)
-  below-append none k = k
-  below-append (more p h) k = more p (below-append h k)

@@ -1,16 +1,18 @@
 -- Numbers as bytes and back: a number of k bytes is what its bytes say, k bytes are those of the number that they say,
 -- and the same of words of eight bytes each.
 -- Assumes nothing.
-use mathlib.Core.List.{List, [], _∷_, _++_, append-assoc}
+use mathlib.Core.List.{List, [], _∷_, _++_, append-assoc, append-nil}
 use mathlib.Core.Path.{_≡_, refl, sym, _∙_, ap, ap₂}
 use Prim.Native.Nat.{ℕ, zero, suc, _+_, _-_, _*_, _/_, _%_, _^_, _≤_, _<_}
-use native.Mathlib.Nat.{zero-add, suc-add, suc-inj, pow-suc, pow-succ', pow-le-pow-right, lt-of-lt-of-le, div-one, div-div-eq-div-mul, div-lt-iff-lt-mul, div-add-mod', mod-lt, add-mul-div-left, add-mul-mod-self-left, div-eq-of-lt, mod-eq-of-lt}
+use native.Mathlib.Nat.{zero-add, suc-add, pow-suc, pow-succ', pow-le-pow-right, lt-of-lt-of-le, div-one, div-div-eq-div-mul, div-lt-iff-lt-mul, div-add-mod', add-mul-div-left, add-mul-mod-self-left, div-eq-of-lt, mod-eq-of-lt}
+use native.Mathlib.Numerals.{add-one}
 use native.Mathlib.Omega.{arith}
 use lib.Dec.{lit<}
-use lib.ListN.{length, take, drop, length-append, length-take, length-drop}
-use lib.Seq.{take-add, drop-drop, take-at, drop-at, length-take-le}
+use lib.ListN.{length, getD, take, drop, length-append, length-take, length-drop}
+use lib.Seq.{take-suc, take-add, drop-drop, take-at, drop-at, length-take-le}
 use Rattle.model.specs.File.{little, numberAt, bytesOf, wordsFrom, wordBytes}
-use Rattle.model.proofs.Below.{AllBelow, none, more, below-take, below-drop, below-append}
+use Rattle.lists.proofs.Front.{rest-whole}
+use Rattle.model.proofs.Below.{AllBelow, none, more, below-take, below-drop}
 
 -- the bytes of a number
 
@@ -18,11 +20,6 @@ pub bytes-length : (k x : ℕ) → length (bytesOf k x) ≡ k
 unfolding bytesOf
 bytes-length zero x = refl
 bytes-length (suc k) x = ap suc (bytes-length k (x / 256))
-
-pub bytes-below : (k x : ℕ) → AllBelow 256 (bytesOf k x)
-unfolding bytesOf
-bytes-below zero x = none
-bytes-below (suc k) x = more (mod-lt x (lit< tt)) (bytes-below k (x / 256))
 
 -- the first j, then those of what is left
 pub bytes-add : (j k x : ℕ) → bytesOf (j + k) x ≡ bytesOf j x ++ bytesOf k (x / 256 ^ j)
@@ -100,6 +97,14 @@ words-part k e d bs h =
     ∙ ap (take d) (drop-at (wordsFrom e bs) _ e (words-length e bs) ∙ words-add d (k - (e + d)) (drop (8 * e) bs))
     ∙ take-at (wordsFrom d (drop (8 * e) bs)) _ d (words-length d (drop (8 * e) bs))
 
+-- k words of what is left of src from a, which is b, in front of what dst holds behind them
+pub words-copied :
+    (src dst l : List ℕ) (a b k : ℕ) → a ≡ b → l ≡ wordsFrom k (take (length src - a) (drop a src)) ++ drop k dst
+    → l ≡ wordsFrom k (drop b src) ++ drop (length (wordsFrom k (drop b src))) dst
+words-copied src dst l a b k begin copied =
+    copied
+    ∙ ap₂ (λ (r : List ℕ) (n : ℕ). wordsFrom k r ++ drop n dst) (rest-whole src a ∙ ap (λ (n : ℕ). drop n src) begin) (sym (words-length k (drop b src)))
+
 pub words-below : (k : ℕ) (bs : List ℕ) → AllBelow 256 bs → AllBelow (2 ^ 64) (wordsFrom k bs)
 unfolding wordsFrom
 words-below zero bs h = none
@@ -116,6 +121,21 @@ unfolding wordBytes
 word-bytes-length [] = refl
 word-bytes-length (w ∷ ws) =
     length-append (bytesOf 8 w) (wordBytes ws) ∙ omega (arith, bytes-length 8 w, word-bytes-length ws)
+
+pub word-bytes-append : (us vs : List ℕ) → wordBytes (us ++ vs) ≡ wordBytes us ++ wordBytes vs
+unfolding wordBytes
+word-bytes-append [] vs = refl
+word-bytes-append (w ∷ us) vs =
+    ap (λ (bs : List ℕ). bytesOf 8 w ++ bs) (word-bytes-append us vs) ∙ sym (append-assoc (bytesOf 8 w) (wordBytes us) (wordBytes vs))
+
+-- the bytes of one more word
+pub word-bytes-more : (i : ℕ) (ws : List ℕ) → i < length ws → wordBytes (take (i + 1) ws) ≡ wordBytes (take i ws) ++ bytesOf 8 (getD ws i 0)
+unfolding wordBytes
+word-bytes-more i ws h =
+    ap (λ (n : ℕ). wordBytes (take n ws)) (add-one i)
+    ∙ ap wordBytes (take-suc ws i 0 h)
+    ∙ word-bytes-append (take i ws) (getD ws i 0 ∷ [])
+    ∙ ap (λ (bs : List ℕ). wordBytes (take i ws) ++ bs) (append-nil (bytesOf 8 (getD ws i 0)))
 
 pub words-of-bytes : (ws : List ℕ) → AllBelow (2 ^ 64) ws → (rest : List ℕ) → wordsFrom (length ws) (wordBytes ws ++ rest) ≡ ws
 unfolding wordsFrom wordBytes

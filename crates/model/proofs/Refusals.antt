@@ -1,16 +1,22 @@
 -- What an answer of checking or reading says of its number and of the counts.
 -- Assumes nothing.
+use mathlib.Core.List.{List, _++_}
 use mathlib.Core.Path.{_≡_, refl, sym, _∙_, ap}
 use Prim.Native.Nat.{ℕ, zero, suc, _<_}
 use native.Mathlib.Omega.{arith}
-use Rattle.answers.specs.Answer.{Answer, refusal, numberOf}
-use Rattle.answers.specs.Check.{unless}
+use Rattle.answers.specs.Answer.{Answer, numberOf}
+use Rattle.answers.specs.Check.{Check, firstOf, unless}
 use Rattle.answers.specs.declared.Refusal.{Refusal}
-use Rattle.answers.proofs.Checks.{number-positive}
+use Rattle.answers.proofs.Checks.{first-before, number-positive}
 use Rattle.model.specs.Says.{readingAnswer, sized}
 use Rattle.model.specs.declared.layout.Model.{Model}
 use Rattle.model.specs.declared.layout.Reading.{Reading}
 use Rattle.model.specs.declared.layout.Reading.the-variants.{Accepted, Refused}
+
+-- an accepted answer, unless a number refuses, has that number
+pub unless-number : (e : ℕ) (a : Answer) → a .number ≡ 0 → unless e a .number ≡ e
+unless-number zero a h = h
+unless-number (suc e) a h = refl
 
 -- what an answer with the number e, and the counts n and d where e is 0, says in each case
 pub record AcceptedAs (e n d : ℕ) (m : Model) : Type 0 where
@@ -22,6 +28,13 @@ pub record RefusedAs (e : ℕ) (r : Refusal) : Type 0 where
   pub number : numberOf r ≡ e
   pub positive : 0 < e
 
+pub refused-by : (r : Refusal) {e : ℕ} → e ≡ numberOf r → RefusedAs e r
+refused-by r h = record { number = sym h; positive = omega (arith, number-positive r) }
+
+-- checks of which one refuses decide
+pub refused-before : (cs ds : List Check) {r : Refusal} → RefusedAs (firstOf cs) r → RefusedAs (firstOf (cs ++ ds)) r
+refused-before cs ds {r} h = refused-by r (first-before cs ds (h .positive) ∙ sym (h .number))
+
 module _ (e n d : ℕ) {a : Reading} (h : readingAnswer a ≡ unless e (sized n d)) where
   pub accepted-as : {m : Model} → a ≡ Accepted m → AcceptedAs e n d m
   accepted-as {m} p = at e (ap readingAnswer (sym p) ∙ h)
@@ -32,11 +45,4 @@ module _ (e n d : ℕ) {a : Reading} (h : readingAnswer a ≡ unless e (sized n 
       at (suc e) q = let z : 0 ≡ suc e = ap (λ (x : Answer). x .number) q in absurd (omega arith)
 
   pub refused-as : {r : Refusal} → a ≡ Refused r → RefusedAs e r
-  refused-as {r} p = record { number = same; positive = omega (arith, same, number-positive r) }
-    where
-      at : (e : ℕ) → unless e (sized n d) .number ≡ e
-      at zero = refl
-      at (suc e) = refl
-
-      same : numberOf r ≡ e
-      same = ap (λ (x : Answer). x .number) (ap readingAnswer (sym p) ∙ h) ∙ at e
+  refused-as {r} p = refused-by r (sym (ap (λ (x : Answer). x .number) (ap readingAnswer (sym p) ∙ h) ∙ unless-number e (sized n d) refl))

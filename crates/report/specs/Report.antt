@@ -2,7 +2,6 @@
 -- Assumes nothing.
 use mathlib.Core.Bool.{cond}
 use mathlib.Core.List.{List, [], _∷_, _++_}
-use mathlib.Core.Path.{_≡_}
 use Prim.Native.Nat.{ℕ, zero, suc}
 use lib.Dec.{ltb}
 use lib.ListN.{length}
@@ -16,7 +15,7 @@ use Rattle.routes.specs.Routes.{builtLeast, builtGreatest, plainRun, restricted
 use Rattle.solver.specs.Checks.{plainNumber}
 use Rattle.solver.specs.declared.Judged.{Judged}
 use Rattle.solver.specs.declared.Judged.the-variants.{Found, Refused}
-use Rattle.text.specs.Text.{hex, decimal, shareOf, pasted}
+use Rattle.text.specs.Text.{hex, decimal, shareOf}
 
 -- the words of the output, in ASCII, each with a blank behind it
 abbrev pub plainWord : List ℕ
@@ -75,7 +74,6 @@ linesOrRefused (suc e) file = refusedLine (suc e)
 unfoldable pub reportText : List ℕ → List ℕ
 reportText file = linesOrRefused (fileNumber file) file
 
--- making the text in a lent buffer: its length and what the buffer is left with; a buffer under 128 bytes is left as it was
-pub record ReportSays (file out : List ℕ) (r : ℕ) (out′ : List ℕ) : Type 0 where
-  pub length-made : r ≡ cond (ltb (length out) 128) 0 (length (reportText file))
-  pub out-left : out′ ≡ cond (ltb (length out) 128) out (pasted 0 (reportText file) out)
+-- making the text in a lent buffer; a buffer under 128 bytes is left as it was, and no text is made
+abbrev pub madeText : List ℕ → List ℕ → List ℕ
+madeText file out = cond (ltb (length out) 128) [] (reportText file)

@@ -1,10 +1,9 @@
 // The judging program's text for an input. Definitions: specs/.
-ghost use mathlib.Core.Path.{_≡_};
 ghost use Prim.Native.Nat.{_+_, _≤_};
 ghost use lib.ListN.{length};
 ghost use Rattle.answers.specs.Answer.{numberOf};
-ghost use Rattle.text.specs.Text.{pasted};
-ghost use Rattle.report.specs.Report.{refusedLine, foundLine, judgedLine, shareLine, ReportSays};
+ghost use Rattle.text.specs.Text.{Puts};
+ghost use Rattle.report.specs.Report.{refusedLine, foundLine, judgedLine, shareLine, madeText};
 use answers::Refusal;
 use model::Reading;
 use solver::Judged;
@@ -18,7 +17,7 @@ pub const REPORT_SIZE: usize = 128;
 // A refusal's line.
 fn put_refused(out: &mut [u8], at: usize, e: Refusal) -> usize
     requires { ⌜ at + 29 ≤ length (now out) ⌝ }
-    ensures { λ r. ⌜ (r ≡ at + length (refusedLine (numberOf e))) × (now (out .exit) ≡ pasted at (refusedLine (numberOf e)) (now (out .entry))) ⌝ }
+    ensures { λ r. ⌜ Puts at (refusedLine (numberOf e)) (now (out .entry)) (now (out .exit)) r ⌝ }
 {
     let word = put(out, at, b"refused ");
     let number = put_decimal(out, word, answers::number(e));
@@ -28,7 +27,7 @@ fn put_refused(out: &mut [u8], at: usize, e: Refusal) -> usize
 // The rest of a line for a set and its count.
 fn put_found(out: &mut [u8], at: usize, set: u64, count: u64) -> usize
     requires { ⌜ at + 38 ≤ length (now out) ⌝ }
-    ensures { λ r. ⌜ (r ≡ at + length (foundLine set count)) × (now (out .exit) ≡ pasted at (foundLine set count) (now (out .entry))) ⌝ }
+    ensures { λ r. ⌜ Puts at (foundLine set count) (now (out .entry)) (now (out .exit)) r ⌝ }
 {
     let digits = put_hex(out, at, set);
     let blank = put(out, digits, b" ");
@@ -39,7 +38,7 @@ fn put_found(out: &mut [u8], at: usize, set: u64, count: u64) -> usize
 // The rest of a line for a judgement.
 fn put_judged(out: &mut [u8], at: usize, j: Judged) -> usize
     requires { ⌜ at + 38 ≤ length (now out) ⌝ }
-    ensures { λ r. ⌜ (r ≡ at + length (judgedLine j)) × (now (out .exit) ≡ pasted at (judgedLine j) (now (out .entry))) ⌝ }
+    ensures { λ r. ⌜ Puts at (judgedLine j) (now (out .entry)) (now (out .exit)) r ⌝ }
 {
     match j {
         Judged::Found { set, count } => put_found(out, at, set, count),
@@ -50,7 +49,7 @@ fn put_judged(out: &mut [u8], at: usize, j: Judged) -> usize
 // The share's line for a judgement of n lines.
 fn put_share(out: &mut [u8], at: usize, j: Judged, n: usize) -> usize
     requires { ⌜ (at + 38 ≤ length (now out)) × (n ≤ 64) ⌝ }
-    ensures { λ r. ⌜ (r ≡ at + length (shareLine j n)) × (now (out .exit) ≡ pasted at (shareLine j n) (now (out .entry))) ⌝ }
+    ensures { λ r. ⌜ Puts at (shareLine j n) (now (out .entry)) (now (out .exit)) r ⌝ }
 {
     let set = match j {
         Judged::Found { set, count: _ } => set,
@@ -64,7 +63,7 @@ fn put_share(out: &mut [u8], at: usize, j: Judged, n: usize) -> usize
 // Puts the text for an input into a buffer of at least REPORT_SIZE bytes, keeps the bytes behind it, and answers its length;
 // in a shorter buffer, nothing.
 pub fn report(file: &[u8], out: &mut [u8]) -> usize
-    ensures { λ r. ⌜ ReportSays (now (file .entry)) (now (out .entry)) r (now (out .exit)) ⌝ }
+    ensures { λ r. ⌜ Puts 0 (madeText (now (file .entry)) (now (out .entry))) (now (out .entry)) (now (out .exit)) r ⌝ }
 {
     if out.len() < REPORT_SIZE {
         return 0;

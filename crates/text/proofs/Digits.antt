@@ -1,14 +1,16 @@
 -- Digits: as many as are asked for, put from the last to the first; and texts put one behind the other are one text.
 -- Assumes nothing.
+use mathlib.Core.Bool.{Bool, true, false, cond}
 use mathlib.Core.List.{List, [], _∷_, _++_, append-nil, append-assoc}
 use mathlib.Core.Path.{_≡_, refl, sym, _∙_, ap, ap₂}
 use Prim.Native.Nat.{ℕ, zero, suc, _+_, _/_, _%_, _≤_}
 use native.Mathlib.Nat.{add-zero}
 use native.Mathlib.Omega.{arith}
+use lib.Dec.{ltb}
 use lib.ListN.{length, set, take, drop, length-append, length-drop, length-set, take-append-drop}
 use lib.Seq.{length-take-le, take-at, drop-append-add, drop-drop}
 use Rattle.lists.proofs.Front.{back-store}
-use Rattle.text.specs.Text.{digit, digits, pasted}
+use Rattle.text.specs.Text.{digit, digits, places, decimal, hex, pasted, Puts}
 
 pub digits-length : (base k x : ℕ) → length (digits base k x) ≡ k
 unfolding digits
@@ -79,3 +81,31 @@ module _ (out₀ : List ℕ) (at base k x : ℕ) where
       let all : digits base k x ≡ f .put = f .whole ∙ ap (λ (n : ℕ). digits base n rest ++ f .put) e in
       f .held ∙ ap (λ (n : ℕ). take (at + n) out₀ ++ (f .put ++ drop (at + k) out₀)) e ∙ ap (λ (n : ℕ). take n out₀ ++ (f .put ++ drop (at + k) out₀)) (add-zero at)
       ∙ ap₂ (λ (t : List ℕ) (n : ℕ). take at out₀ ++ (t ++ drop (at + n) out₀)) (sym all) (sym (digits-length base k x))
+
+-- what a text's length is at most, so that it fits
+pub places-few : (k x : ℕ) → places k x ≤ suc k
+unfolding places
+places-few zero x = omega arith
+places-few (suc k) x = go (ltb x 10) (places-few k (x / 10))
+  where
+    go : (t : Bool) → places k (x / 10) ≤ suc k → cond t 1 (suc (places k (x / 10))) ≤ suc (suc k)
+    go true h = omega arith
+    go false h = omega arith
+
+pub decimal-few : (x : ℕ) → length (decimal x) ≤ 20
+decimal-few x = omega (arith, digits-length 10 (places 19 x) x, places-few 19 x)
+
+pub hex-long : (x : ℕ) → length (hex x) ≡ 16
+hex-long x = digits-length 16 16 x
+
+-- a text put, and another behind it
+pub puts-then : {at r r′ : ℕ} {s t out mid out′ : List ℕ} → at ≤ length out → Puts at s out mid r → Puts r t mid out′ r′ → Puts at (s ++ t) out out′ r′
+puts-then {at} {r} {r′} {s} {t} {out} {mid} h p q =
+    record {
+      end = q .end ∙ omega (arith, p .end, length-append s t);
+      left = q .left ∙ ap₂ (λ (n : ℕ) (l : List ℕ). pasted n t l) (p .end) (p .left) ∙ pasted-twice at s out h t;
+    }
+
+-- a buffer keeps its length
+pub puts-length : {at r : ℕ} {s out out′ : List ℕ} → at + length s ≤ length out → Puts at s out out′ r → length out′ ≡ length out
+puts-length {at} {r} {s} {out} h p = ap length (p .left) ∙ pasted-length at s out (omega arith) h

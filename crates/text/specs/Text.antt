@@ -2,6 +2,7 @@
 -- Assumes nothing.
 use mathlib.Core.Bool.{cond}
 use mathlib.Core.List.{List, [], _∷_, _++_}
+use mathlib.Core.Path.{_≡_}
 use Prim.Native.Nat.{ℕ, zero, suc, _+_, _*_, _/_, _%_}
 use lib.Dec.{ltb}
 use lib.ListN.{length, take, drop}
@@ -35,3 +36,8 @@ shareOf good n = (2000 * good + n) / (2 * n)
 -- a list with a text put into it at a place
 abbrev pub pasted : ℕ → List ℕ → List ℕ → List ℕ
 pasted at text l = take at l ++ (text ++ drop (at + length text) l)
+
+-- putting a text into a buffer at a place: the place behind it, and what the buffer is left with
+pub record Puts (at : ℕ) (text out out′ : List ℕ) (r : ℕ) : Type 0 where
+  pub end : r ≡ at + length text
+  pub left : out′ ≡ pasted at text out

@@ -2,12 +2,12 @@
 ghost use mathlib.Core.Path.{_≡_};
 ghost use Prim.Native.Nat.{_+_, _≤_, _<_};
 ghost use lib.ListN.{length};
-ghost use Rattle.text.specs.Text.{digit, digits, places, hex, decimal, shareOf, pasted};
+ghost use Rattle.text.specs.Text.{digit, digits, places, hex, decimal, shareOf, Puts};
 
 // Puts a text at a place, and answers the place behind it.
 pub fn put(out: &mut [u8], at: usize, text: &[u8]) -> usize
     requires { ⌜ at + length (now text) ≤ length (now out) ⌝ }
-    ensures { λ r. ⌜ (r ≡ at + length (now (text .entry))) × (now (out .exit) ≡ pasted at (now (text .entry)) (now (out .entry))) ⌝ }
+    ensures { λ r. ⌜ Puts at (now (text .entry)) (now (out .entry)) (now (out .exit)) r ⌝ }
 {
     at + bytes::copy(text, &mut out[at..])
 }
@@ -24,7 +24,7 @@ fn digit_of(n: u64) -> u8
 fn put_digits(out: &mut [u8], at: usize, base: u64, k: usize, x: u64) -> usize
     requires { ⌜ (1 ≤ base) × (base ≤ 16) ⌝ }
     requires { ⌜ at + k ≤ length (now out) ⌝ }
-    ensures { λ r. ⌜ (r ≡ at + k) × (now (out .exit) ≡ pasted at (digits base k x) (now (out .entry))) ⌝ }
+    ensures { λ r. ⌜ Puts at (digits base k x) (now (out .entry)) (now (out .exit)) r ⌝ }
 {
     let mut rest = x;
     let mut i = k;
@@ -39,7 +39,7 @@ fn put_digits(out: &mut [u8], at: usize, base: u64, k: usize, x: u64) -> usize
 // A set as 16 hexadecimal digits.
 pub fn put_hex(out: &mut [u8], at: usize, x: u64) -> usize
     requires { ⌜ at + 16 ≤ length (now out) ⌝ }
-    ensures { λ r. ⌜ (r ≡ at + 16) × (now (out .exit) ≡ pasted at (hex x) (now (out .entry))) ⌝ }
+    ensures { λ r. ⌜ Puts at (hex x) (now (out .entry)) (now (out .exit)) r ⌝ }
 {
     put_digits(out, at, 16, 16, x)
 }
@@ -60,7 +60,7 @@ fn decimal_places(x: u64) -> usize
 // A decimal number with no zero in front.
 pub fn put_decimal(out: &mut [u8], at: usize, x: u64) -> usize
     requires { ⌜ at + 20 ≤ length (now out) ⌝ }
-    ensures { λ r. ⌜ (r ≡ at + places 19 x) × (now (out .exit) ≡ pasted at (decimal x) (now (out .entry))) ⌝ }
+    ensures { λ r. ⌜ Puts at (decimal x) (now (out .entry)) (now (out .exit)) r ⌝ }
 {
     put_digits(out, at, 10, decimal_places(x), x)
 }

@@ -36,11 +36,12 @@ returns c =
     let at = start .args .at in
     let l = now (start .args .out) in
     let t = now (start .args .text) in
-    let copied = all-copied t _ _ (c .before .before .copy .ensures .1) in (
-      omega arith,
-      front-part (take at l) t l l _ at (length t) (at + length t) (length-take-le at l (omega (arith, start .pre))) refl (sym (take-append-drop at l)) copied
-          ∙ append-assoc (take at l) t (drop (at + length t) l),
-    )
+    let copied = all-copied t _ _ (c .before .before .copy .ensures .1) in
+    record {
+      end = omega arith;
+      left = front-part (take at l) t l l _ at (length t) (at + length t) (length-take-le at l (omega (arith, start .pre))) refl (sym (take-append-drop at l)) copied
+          ∙ append-assoc (take at l) t (drop (at + length t) l);
+    }
 
 pub put-spec : {M : Type 1} → statement M
 put-spec =

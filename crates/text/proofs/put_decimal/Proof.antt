@@ -1,10 +1,10 @@
 -- `text::put_decimal` meets its contract: the digits are as many as the number has places.
 -- Assumes nothing.
-use mathlib.Core.Path.{_∙_, ap}
+use mathlib.Core.Path.{subst}
 use Prim.Native.Nat.{ℕ}
 use denote.Ref.{now}
 use borrow.Author.Needs.{needs}
-use Rattle.text.specs.Text.{digits, pasted}
+use Rattle.text.specs.Text.{digits, Puts}
 use Rattle.text.proofs.put_decimal.Statement.{statement}
 use Rattle.text.proofs.put_decimal.Tie as tie
 
@@ -20,10 +20,9 @@ same-length c = search needs
 returns : tie.Need-returns
 returns c =
     let start = c .before .before .before .before .before .before in
-    let places = c .before .before .before .decimal-places .ensures .0 in (
-      search needs,
-      c .before .before .put-digits .ensures .1 ∙ ap (λ (k : ℕ). pasted (start .args .at) (digits 10 k (start .args .x)) (now (start .args .out))) places,
-    )
+    let put = c .before .before .put-digits in
+    subst (λ (k : ℕ). Puts (start .args .at) (digits 10 k (start .args .x)) (now (start .args .out)) (put .last .0) (put .result)) (c .before .before .before .decimal-places .ensures .0)
+    (put .ensures)
 
 pub put-decimal-spec : {M : Type 1} → statement M
 put-decimal-spec =

@@ -1,11 +1,11 @@
 -- `text::put_digits` meets its contract. The loop's invariant is `Filling`; the measure is the digits to come.
 -- Assumes nothing.
-use mathlib.Core.Path.{refl, sym}
-use Prim.Native.Nat.{_-_}
+use mathlib.Core.Path.{sym, ap}
+use Prim.Native.Nat.{ℕ, _+_, _-_}
 use native.Mathlib.Nat.{mod-lt}
 use native.Mathlib.Omega.{arith}
 use lib.ListN.{length-set}
-use Rattle.text.proofs.Digits.{Filling, filling-start, filling-step, filling-end}
+use Rattle.text.proofs.Digits.{digits-length, Filling, filling-start, filling-step, filling-end}
 use borrow.Author.Needs.{needs}
 use Rattle.text.proofs.put_digits.Statement.{statement}
 use Rattle.text.proofs.put_digits.Tie as tie
@@ -56,7 +56,12 @@ same-length : tie.Need-same-length Inv-loop μ-loop
 same-length c = search needs
 
 returns : tie.Need-returns Inv-loop μ-loop
-returns c = (refl, filling-end _ _ _ _ _ (c .before .loop .i) (omega arith) (c .before .loop .inv))
+returns c =
+    let start = c .before .before .before in
+    record {
+      end = ap (λ (n : ℕ). start .args .at + n) (sym (digits-length (start .args .base) (start .args .k) (start .args .x)));
+      left = filling-end _ _ _ _ _ (c .before .loop .i) (omega arith) (c .before .loop .inv);
+    }
 
 pub put-digits-spec : {M : Type 1} → statement M
 put-digits-spec =
