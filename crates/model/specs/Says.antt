@@ -49,16 +49,22 @@ filled (suc e) new old = old
 abbrev pub checkAnswer : List ℕ → Answer
 checkAnswer file = unless (fileNumber file) (sized (linesIn file) (levelsIn file))
 
--- reading a file into three lists
+-- reading a file into three lists of these lengths
+abbrev pub readAnswer : List ℕ → ℕ → ℕ → ℕ → Answer
+readAnswer file signs kinds words = unless (readNumber file signs kinds words) (sized (linesIn file) (levelsIn file))
+
 pub record ReadSays (file signs kinds words : List ℕ) (r : Reading) (signs′ kinds′ words′ : List ℕ) : Type 0 where
-  pub answer : readingAnswer r ≡ unless (readNumber file (length signs) (length kinds) (length words)) (sized (linesIn file) (levelsIn file))
+  pub answer : readingAnswer r ≡ readAnswer file (length signs) (length kinds) (length words)
   pub signs-left : signs′ ≡ filled (readNumber file (length signs) (length kinds) (length words)) (decode file .signs) signs
   pub kinds-left : kinds′ ≡ filled (readNumber file (length signs) (length kinds) (length words)) (decode file .kinds) kinds
   pub words-left : words′ ≡ filled (readNumber file (length signs) (length kinds) (length words)) (decode file .words) words
 
--- writing a system into a buffer
+-- writing a system into a buffer of `room` bytes
+abbrev pub writeAnswer : System → ℕ → Answer
+writeAnswer m room = unless (writeNumber m room) (made (fileLength (m .lines) (m .levels)))
+
 pub record WriteSays (m : System) (buffer : List ℕ) (r : Written) (buffer′ : List ℕ) : Type 0 where
-  pub answer : writtenAnswer r ≡ unless (writeNumber m (length buffer)) (made (fileLength (m .lines) (m .levels)))
+  pub answer : writtenAnswer r ≡ writeAnswer m (length buffer)
   pub buffer-left : buffer′ ≡ filled (writeNumber m (length buffer)) (encode m) buffer
 
 -- one query of a file at the arguments xs

@@ -1,13 +1,13 @@
 // The operations for C and Rust to call: each fills six words with its answer (include/solver.h).
 ghost use mathlib.Core.Path.{_≡_};
 ghost use lib.ListN.{length};
-ghost use Rattle.answers.specs.Answer.{counted, refusal, numberOf};
-ghost use Rattle.trees.specs.Count.{leafCountAnswer};
+ghost use Rattle.answers.specs.Answer.{refusal, numberOf};
+ghost use Rattle.trees.specs.Count.{answerOf, leafCountAnswer};
 ghost use Rattle.model.specs.System.{systemOf};
 ghost use Rattle.model.specs.File.{decode, encode};
 ghost use Rattle.model.specs.Checks.{readNumber, writeNumber};
-ghost use Rattle.model.specs.Says.{filled, readAnswer, writeAnswer, queryAnswer, sized, made, valued};
-ghost use Rattle.solver.specs.Says.{plainAnswer, builtAnswer, lentAnswer, judged, judgedAnswer};
+ghost use Rattle.model.specs.Says.{filled, readingAnswer, writtenAnswer, queriedAnswer, readAnswer, writeAnswer, queryAnswer};
+ghost use Rattle.solver.specs.Says.{judgedAnswer, plainAnswer, builtAnswer, lentAnswer};
 ghost use Rattle.solver_c.specs.Words.{sixWords};
 use answers::Refusal;
 use model::Queried;
@@ -33,6 +33,53 @@ fn put_judged(answer: &mut [u64; 6], j: Judged)
     }
 }
 
+fn put_reading(answer: &mut [u64; 6], r: Reading)
+    ensures { λ _. ⌜ now (answer .exit) ≡ sixWords (readingAnswer r) ⌝ }
+{
+    match r {
+        Reading::Accepted(m) => {
+            let n = m.lines as u64;
+            let d = m.levels as u64;
+            *answer = [0, 0, 0, 0, n, d];
+        }
+        Reading::Refused(e) => put_refused(answer, e),
+    }
+}
+
+fn put_written(answer: &mut [u64; 6], r: Written)
+    ensures { λ _. ⌜ now (answer .exit) ≡ sixWords (writtenAnswer r) ⌝ }
+{
+    match r {
+        Written::Length(bytes) => {
+            let made = bytes as u64;
+            *answer = [0, 0, 0, made, 0, 0];
+        }
+        Written::Refused(e) => put_refused(answer, e),
+    }
+}
+
+fn put_queried(answer: &mut [u64; 6], r: Queried)
+    ensures { λ _. ⌜ now (answer .exit) ≡ sixWords (queriedAnswer r) ⌝ }
+{
+    match r {
+        Queried::Set(set) => {
+            *answer = [0, set, 0, 0, 0, 0];
+        }
+        Queried::Refused(e) => put_refused(answer, e),
+    }
+}
+
+fn put_leaves(answer: &mut [u64; 6], r: LeafCount)
+    ensures { λ _. ⌜ now (answer .exit) ≡ sixWords (answerOf r) ⌝ }
+{
+    match r {
+        LeafCount::Leaves(count) => {
+            *answer = [0, 0, count, 0, 0, 0];
+        }
+        LeafCount::Refused(e) => put_refused(answer, e),
+    }
+}
+
 #[no_mangle]
 pub extern "C" fn solver_read(
     file: &[u8],
@@ -46,15 +93,7 @@ pub extern "C" fn solver_read(
     ensures { λ _. ⌜ now (kinds .exit) ≡ filled (readNumber (now (file .entry)) (length (now (signs .entry))) (length (now (kinds .entry))) (length (now (words .entry)))) (decode (now (file .entry)) .kinds) (now (kinds .entry)) ⌝ }
     ensures { λ _. ⌜ now (words .exit) ≡ filled (readNumber (now (file .entry)) (length (now (signs .entry))) (length (now (kinds .entry))) (length (now (words .entry)))) (decode (now (file .entry)) .words) (now (words .entry)) ⌝ }
 {
-    let r = model::read(file, signs, kinds, words);
-    match r {
-        Reading::Accepted(m) => {
-            let n = m.lines as u64;
-            let d = m.levels as u64;
-            *answer = [0, 0, 0, 0, n, d];
-        }
-        Reading::Refused(e) => put_refused(answer, e),
-    }
+    put_reading(answer, model::read(file, signs, kinds, words));
 }
 
 #[no_mangle]
@@ -70,26 +109,14 @@ pub extern "C" fn solver_write(
     ensures { λ _. ⌜ now (answer .exit) ≡ sixWords (writeAnswer (systemOf n d (now (signs .entry)) (now (kinds .entry)) (now (words .entry))) (length (now (buffer .entry)))) ⌝ }
     ensures { λ _. ⌜ now (buffer .exit) ≡ filled (writeNumber (systemOf n d (now (signs .entry)) (now (kinds .entry)) (now (words .entry))) (length (now (buffer .entry)))) (encode (systemOf n d (now (signs .entry)) (now (kinds .entry)) (now (words .entry)))) (now (buffer .entry)) ⌝ }
 {
-    let r = model::write(n, d, signs, kinds, words, buffer);
-    match r {
-        Written::Length(bytes) => {
-            *answer = [0, 0, 0, bytes as u64, 0, 0];
-        }
-        Written::Refused(e) => put_refused(answer, e),
-    }
+    put_written(answer, model::write(n, d, signs, kinds, words, buffer));
 }
 
 #[no_mangle]
 pub extern "C" fn solver_query(file: &[u8], arguments: &[u64], answer: &mut [u64; 6])
     ensures { λ _. ⌜ now (answer .exit) ≡ sixWords (queryAnswer (now (file .entry)) (now (arguments .entry))) ⌝ }
 {
-    let r = model::query(file, arguments);
-    match r {
-        Queried::Set(set) => {
-            *answer = [0, set, 0, 0, 0, 0];
-        }
-        Queried::Refused(e) => put_refused(answer, e),
-    }
+    put_queried(answer, model::query(file, arguments));
 }
 
 #[no_mangle]
@@ -124,11 +151,5 @@ pub extern "C" fn solver_lent(
 pub extern "C" fn solver_leaf_count(n: usize, h: usize, answer: &mut [u64; 6])
     ensures { λ _. ⌜ now (answer .exit) ≡ sixWords (leafCountAnswer n h) ⌝ }
 {
-    let r = trees::leaf_count(n, h);
-    match r {
-        LeafCount::Leaves(count) => {
-            *answer = [0, 0, count, 0, 0, 0];
-        }
-        LeafCount::Refused(e) => put_refused(answer, e),
-    }
+    put_leaves(answer, trees::leaf_count(n, h));
 }
