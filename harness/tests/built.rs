@@ -12,8 +12,10 @@ fn queries(model: &Model) -> u64 {
     leaves(model.least_levels()) * leaves(model.greatest_levels())
 }
 
-/// A case of this size whose built-in trees make at most so many queries.
+/// A case of this size whose built-in trees make at most so many queries, or as many as with all levels of one sign,
+/// which are the fewest.
 fn case_within(random: &mut Random, n: usize, d: usize, most: u64) -> Case {
+    let most = most.max(Tree::built_in(n, d).leaf_count());
     loop {
         let case = random::case(random, n, d);
         if queries(&case.model) <= most {
@@ -30,7 +32,7 @@ fn judge(case: &Case) -> Answer {
 fn small_models_have_the_nested_fixpoint_by_its_definition() {
     let mut random = Random::new(501);
     let mut between = 0;
-    for _ in 0..2000 {
+    for _ in 0..4000 {
         let case = random::small_case(&mut random);
         let (a, b) = case.bounds();
         let set = nested(&case.model, &a, &b);
@@ -38,7 +40,7 @@ fn small_models_have_the_nested_fixpoint_by_its_definition() {
         assert_eq!(judge(&case), expected, "{case:?}");
         between += (set != a && set != b) as usize;
     }
-    assert!(between > 300, "only {between} sets strictly between their bounds");
+    assert!(between > 1000, "only {between} sets strictly between their bounds");
 }
 
 #[test]
@@ -46,8 +48,7 @@ fn every_size_has_the_restricted_set_over_the_trees_nodes() {
     let mut random = Random::new(502);
     for n in 1..=64 {
         for d in 1..=8 {
-            // With all levels of one sign even 64 lines and 8 levels make 33,461 queries only.
-            let case = case_within(&mut random, n, d, 34_000);
+            let case = case_within(&mut random, n, d, 10_000);
             let expected = reference::built(&case.file, case.a, case.b);
             assert_eq!(judge(&case), expected, "{case:?}");
         }
@@ -58,9 +59,9 @@ fn every_size_has_the_restricted_set_over_the_trees_nodes() {
 fn larger_models_have_the_winning_lines_of_their_game() {
     let mut random = Random::new(503);
     let mut between = 0;
-    for round in 0..400 {
+    for round in 0..300 {
         let (n, d) = (random.between(5, 64), random.between(2, 8));
-        let mut case = case_within(&mut random, n, d, 200_000);
+        let mut case = case_within(&mut random, n, d, 100_000);
         if round % 2 == 0 {
             (case.a, case.b) = (0, full(n));
         }
@@ -76,8 +77,8 @@ fn larger_models_have_the_winning_lines_of_their_game() {
 #[test]
 fn lower_bound_models_are_judged_too() {
     let mut random = Random::new(504);
-    for n in [1, 2, 3, 4, 7, 8, 15, 16, 31, 32, 48, 63, 64] {
-        for h in 1..=3 {
+    for n in [1, 2, 3, 4, 7, 8, 15, 16, 31, 32, 63, 64] {
+        for h in 1..=if n < 32 { 3 } else { 2 } {
             let case = Case::new(random::hard_model(&mut random, n, h), (0, full(n)));
             let (a, b) = case.bounds();
             let set = winning_lines(&case.model, &a, &b);
@@ -91,20 +92,20 @@ fn lower_bound_models_are_judged_too() {
 fn the_largest_run_is_judged() {
     let mut random = Random::new(505);
     let signs = random::alternating(8, false);
-    let case = Case::new(random::model(&mut random, 64, &signs, Density::Few), (0, full(64)));
+    let case = Case::new(random::model(&mut random, 64, &signs, Density::Share(20)), (0, full(64)));
     let (a, b) = case.bounds();
     let set = winning_lines(&case.model, &a, &b);
     assert!(set != a && set != b);
-    // Of all signs, four least and four greatest levels make the most queries.
+    // Four least and four greatest levels make the most queries of all signs.
     assert_eq!(judge(&case), Answer::judged(word_of(&set), queries(&case.model)));
 }
 
 #[test]
 fn equal_bounds_are_the_set() {
     let mut random = Random::new(506);
-    for _ in 0..300 {
+    for _ in 0..200 {
         let (n, d) = (random.between(1, 64), random.between(1, 8));
-        let mut case = case_within(&mut random, n, d, 34_000);
+        let mut case = case_within(&mut random, n, d, 10_000);
         case.a = random.word() & full(n);
         case.b = case.a;
         assert_eq!(judge(&case), Answer::judged(case.a, queries(&case.model)), "{case:?}");

@@ -20,7 +20,7 @@ fn over_built_in_trees(model: &Model, a: &[bool], b: &[bool]) -> (Vec<bool>, u64
 fn definition_game_rounds_and_universal_trees_give_one_set() {
     let mut random = Random::new(101);
     let mut between = 0;
-    for _ in 0..2000 {
+    for _ in 0..4000 {
         let case = random::small_case(&mut random);
         let (a, b) = case.bounds();
         let set = nested(&case.model, &a, &b);
@@ -29,7 +29,7 @@ fn definition_game_rounds_and_universal_trees_give_one_set() {
         assert_eq!(over_built_in_trees(&case.model, &a, &b).0, set, "trees {case:?}");
         between += (set != a && set != b) as usize;
     }
-    assert!(between > 300, "only {between} sets strictly between their bounds");
+    assert!(between > 1000, "only {between} sets strictly between their bounds");
 }
 
 #[test]

@@ -7,9 +7,7 @@ use lib.Dec.{ltb}
 use lib.ListN.{length}
 use Rattle.answers.specs.Answer.{numberOf}
 use Rattle.sets.specs.Set.{full, members}
-use Rattle.fixpoint.specs.Plain.{Run}
-use Rattle.model.specs.System.{System}
-use Rattle.model.specs.File.{linesIn, decode}
+use Rattle.model.specs.File.{decode}
 use Rattle.model.specs.Checks.{fileNumber}
 use Rattle.routes.specs.Routes.{builtLeast, builtGreatest, plainRun, restrictedSet, restrictedCount}
 use Rattle.solver.specs.Checks.{plainNumber}

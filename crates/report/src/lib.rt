@@ -48,7 +48,7 @@ fn put_judged(out: &mut [u8], at: usize, j: Judged) -> usize
 
 // The share's line for a judgement of n lines.
 fn put_share(out: &mut [u8], at: usize, j: Judged, n: usize) -> usize
-    requires { ⌜ (at + 38 ≤ length (now out)) × (n ≤ 64) ⌝ }
+    requires { ⌜ (at + 27 ≤ length (now out)) × (n ≤ 64) ⌝ }
     ensures { λ r. ⌜ Puts at (shareLine j n) (now (out .entry)) (now (out .exit)) r ⌝ }
 {
     let set = match j {

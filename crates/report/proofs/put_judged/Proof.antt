@@ -1,10 +1,8 @@
+-- `report::put_judged` meets its contract: each case of the judgement has its line.
+-- Assumes nothing.
 use borrow.Author.Needs.{needs}
 use Rattle.report.proofs.put_judged.Statement.{statement}
 use Rattle.report.proofs.put_judged.Tie as tie
-use Rattle.report.proofs.put_judged.Reads as reads
-use Rattle.report.proofs.put_judged.Lts as lts
-use Rattle.report.proofs.put_found.Reads as put-found-reads
-use Rattle.report.proofs.put_refused.Reads as put-refused-reads
 
 enum-known-j : tie.Need-enum-known-j
 enum-known-j c = search needs
@@ -22,13 +20,13 @@ same-length : tie.Need-same-length
 same-length c = search needs
 
 returns : tie.Need-returns
-returns c = ?returns
+returns c = rw (c .before .before .before .before .before .j .given .1) (c .before .before .put-found .ensures)
 
 same-length-2 : tie.Need-same-length-2
 same-length-2 c = search needs
 
 returns-2 : tie.Need-returns-2
-returns-2 c = ?returns2
+returns-2 c = rw (c .before .before .before .before .before .j2 .given .1) (c .before .before .put-refused .ensures)
 
 pub put-judged-spec : {M : Type 1} → statement M
 put-judged-spec =

@@ -1,12 +1,20 @@
+-- `report::put_share` meets its contract: the word, the share of the judgement's set and the line's end are put one behind the other.
+-- Assumes nothing.
+use native.Mathlib.Omega.{arith}
+use mathlib.Core.Logic.{⊎-elim}
+use mathlib.Core.Path.{_≡_, ap, _∙_}
+use Prim.Native.Nat.{ℕ}
+use Rattle.text.specs.Text.{shareOf}
+use Rattle.text.proofs.Digits.{decimal-few}
+use Rattle.report.specs.Report.{shareLine, shareOfSet}
+use Rattle.report.proofs.Lines.{puts-number}
 use borrow.Author.Needs.{needs}
 use Rattle.report.proofs.put_share.Statement.{statement}
 use Rattle.report.proofs.put_share.Tie as tie
-use Rattle.report.proofs.put_share.Reads as reads
-use Rattle.report.proofs.put_share.Lts as lts
-use Rattle.sets.proofs.member_count.Reads as member-count-reads
-use Rattle.text.proofs.put.Reads as put-reads
-use Rattle.text.proofs.put_decimal.Reads as put-decimal-reads
-use Rattle.text.proofs.share.Reads as share-reads
+
+-- the set that is shared is the judgement's, or none where judging refused
+line : (c : tie.At-match-came) → shareLine (c .before .before .args .j) (c .before .before .args .n) ≡ shareOfSet (c .match .set) (c .before .before .args .n)
+line c = ⊎-elim (λ w. rw (w .1 .given .1, w .3)) (λ w. rw (w .1 .given .1, w .2)) (c .match .came)
 
 enum-known-j : tie.Need-enum-known-j
 enum-known-j c = search needs
@@ -36,13 +44,20 @@ slice-aggregate-put-2 : tie.Need-slice-aggregate-put-2
 slice-aggregate-put-2 c = search needs
 
 put-requires-2 : tie.Need-put-requires-2
-put-requires-2 c κs = ?putrequires2
+put-requires-2 c κs = omega (arith, decimal-few (c .before .before .before .before .before .share .result))
 
 same-length : tie.Need-same-length
 same-length c = search needs
 
 returns : tie.Need-returns
-returns c = ?returns
+returns c =
+    let number = c .before .before .before .before .before .before .before in
+    let word = number .before .before .before .before .before .before in
+    let start = word .before .before .before .before .before in
+    let good = number .before .before .member-count .ensures in
+    let share = number .before .share .ensures ∙ ap (λ (x : ℕ). shareOf x (start .args .n)) good in
+    rw (line (word .before .before .before))
+    (puts-number _ _ (omega (arith, start .pre)) share (word .put .ensures) (number .put-decimal .ensures) (c .before .before .put2 .ensures))
 
 pub put-share-spec : {M : Type 1} → statement M
 put-share-spec =

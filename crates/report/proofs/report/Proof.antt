@@ -1,19 +1,37 @@
+-- `report::report` meets its contract: a short buffer is left as it was, a refused file has the refusal's line, and of an accepted file
+-- the pieces of the three lines, put one behind the other, are its text. Every line is so short that 128 bytes are enough.
+-- Assumes nothing.
+use mathlib.Core.Path.{refl}
+use Prim.Native.Nat.{_+_, _≤_}
+use native.Mathlib.Omega.{arith}
+use borrow.Author.Tests.{lt-ltb, le-ltb}
+use denote.Ref.{now}
+use lib.ListN.{length}
+use Rattle.model.proofs.Accepted.{Checked, checked, refused}
+use Rattle.text.proofs.Digits.{puts-then}
+use Rattle.report.proofs.Lines.{judged-few}
+use Rattle.report.proofs.Judgements.{refused-text, accepted-text}
 use borrow.Author.Needs.{needs}
 use Rattle.report.proofs.report.Statement.{statement}
 use Rattle.report.proofs.report.Tie as tie
-use Rattle.report.proofs.report.Reads as reads
-use Rattle.report.proofs.report.Lts as lts
-use Rattle.model.proofs.check.Reads as check-reads
-use Rattle.report.proofs.put_judged.Reads as put-judged-reads
-use Rattle.report.proofs.put_refused.Reads as put-refused-reads
-use Rattle.report.proofs.put_share.Reads as put-share-reads
-use Rattle.sets.proofs.full_set.Reads as full-set-reads
-use Rattle.solver.proofs.solve_built.Reads as solve-built-reads
-use Rattle.solver.proofs.solve_plain.Reads as solve-plain-reads
-use Rattle.text.proofs.put.Reads as put-reads
+
+-- the place behind the plain line, from that behind the tree's
+abbrev plain-line : tie.After-put-judged2 → tie.After-put-judged
+plain-line c = c .before .before .before .before .before .before .before .before .before .before
+
+-- what checking told of an accepted file
+known : (c : tie.After-known-told) → Checked (now (c .before .before .before .before .before .before .before .args .file)) (c .before .counts .given .0 .0)
+known c = checked _ (c .before .before .before .check .ensures) (c .before .counts .given .1)
+
+-- the room behind the plain line, and behind the tree's
+plain-room : (c : tie.After-put-judged) → c .put-judged .result + 84 ≤ length (c .put-judged .last .0)
+plain-room c = omega (arith, judged-few (c .before .solve-plain .result))
+
+tree-room : (c : tie.After-put-judged2) → c .put-judged2 .result + 41 ≤ length (c .put-judged2 .last .0)
+tree-room c = omega (arith, judged-few (c .before .before .before .before .before .before .before .solve-built .result), plain-room (plain-line c))
 
 returns : tie.Need-returns
-returns c = ?returns
+returns c = rw (lt-ltb _ 128 (c .if1 .taken)) (record { end = refl; left = refl })
 
 check-requires : tie.Need-check-requires
 check-requires c κs = search needs
@@ -31,7 +49,11 @@ same-length : tie.Need-same-length
 same-length c = search needs
 
 returns-2 : tie.Need-returns-2
-returns-2 c = ?returns2
+returns-2 c =
+    let told = c .before .before .before .before .before in
+    let test = told .before .before .before in
+    rw (le-ltb _ 128 (test .if1 .left), ← refused-text _ (refused _ (told .before .before .check .ensures) (told .counts2 .given .1)))
+    (c .before .before .put-refused .ensures)
 
 full-set-requires : tie.Need-full-set-requires
 full-set-requires c κs = search needs
@@ -55,19 +77,35 @@ slice-aggregate-put-2 : tie.Need-slice-aggregate-put-2
 slice-aggregate-put-2 c = search needs
 
 put-requires-2 : tie.Need-put-requires-2
-put-requires-2 c κs = ?putrequires2
+put-requires-2 c κs = omega (arith, plain-room (c .before .before .before .before .before))
 
 put-judged-requires-2 : tie.Need-put-judged-requires-2
-put-judged-requires-2 c κs = ?putjudgedrequires2
+put-judged-requires-2 c κs = omega (arith, plain-room (c .before .before .before .before .before .before .before .before .before))
 
 put-share-requires : tie.Need-put-share-requires
-put-share-requires c κs = ?putsharerequires
+put-share-requires c κs =
+    let tree = c .before .before .before in
+    omega (arith, tree-room tree, known (plain-line tree .before .before .before .before .before .before .before .before .before) .limits)
 
 same-length-2 : tie.Need-same-length-2
 same-length-2 c = search needs
 
 returns-3 : tie.Need-returns-3
-returns-3 c = ?returns3
+returns-3 c =
+    let share = c .before .before in
+    let tree = share .before .before .before .before in
+    let tree-word = tree .before .before .before .before in
+    let built = tree-word .before .before .before in
+    let plain = plain-line tree in
+    let plain-word = plain .before .before .before .before .before in
+    let all = plain-word .before .before .before in
+    let told = all .before in
+    let long = told .before .before .before .before .if1 .left in
+    rw (le-ltb _ 128 long, ← accepted-text _ (known told) (all .full-set .ensures) (plain .before .solve-plain .ensures) (built .solve-built .ensures))
+    (puts-then (omega arith) (plain-word .put .ensures)
+    (puts-then (omega (arith, plain-word .put)) (plain .put-judged .ensures)
+    (puts-then (omega (arith, plain-room plain)) (tree-word .put2 .ensures)
+    (puts-then (omega (arith, plain-room plain, tree-word .put2)) (tree .put-judged2 .ensures) (share .put-share .ensures)))))
 
 pub report-spec : {M : Type 1} → statement M
 report-spec =

@@ -1,7 +1,7 @@
 -- `text::decimal_places` meets its contract. The loop's invariant: what is counted, and the places of what is left of the number, are all of them,
 -- and what is left fits in the places that may still be counted. The measure is what is left.
 -- Assumes nothing.
-use mathlib.Core.Path.{_≡_, refl, sym, _∙_, ap}
+use mathlib.Core.Path.{_≡_, refl, _∙_, ap}
 use Prim.Native.Nat.{ℕ, zero, suc, _+_, _/_, _^_, _≤_, _<_}
 use native.Mathlib.Nat.{lt-trans, pow-suc, div-lt-iff-lt-mul}
 use native.Mathlib.Omega.{arith}

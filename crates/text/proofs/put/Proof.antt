@@ -1,7 +1,7 @@
 -- `text::put` meets its contract: the rest of the buffer from the place on is lent, and comes back with the text in front.
 -- Assumes nothing.
 use mathlib.Core.List.{append-assoc}
-use mathlib.Core.Path.{_≡_, refl, sym, _∙_}
+use mathlib.Core.Path.{refl, sym, _∙_}
 use Prim.Native.Nat.{_+_}
 use native.Mathlib.Omega.{arith}
 use denote.Ref.{now}

@@ -4,7 +4,6 @@ use mathlib.Core.Path.{sym, ap}
 use Prim.Native.Nat.{ℕ, _+_, _-_}
 use native.Mathlib.Nat.{mod-lt}
 use native.Mathlib.Omega.{arith}
-use lib.ListN.{length-set}
 use Rattle.text.proofs.Digits.{digits-length, Filling, filling-start, filling-step, filling-end}
 use borrow.Author.Needs.{needs}
 use Rattle.text.proofs.put_digits.Statement.{statement}

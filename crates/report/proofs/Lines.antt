@@ -1,0 +1,30 @@
+-- Lines: a word, a number and the line's end, put one behind the other; and how long a line is at most, so that all of them fit.
+-- Assumes nothing.
+use mathlib.Core.List.{List, [], _∷_, _++_}
+use mathlib.Core.Path.{_≡_}
+use Prim.Native.Nat.{ℕ, _+_, _≤_}
+use native.Mathlib.Omega.{arith}
+use lib.ListN.{length, length-append}
+use Rattle.answers.specs.Answer.{numberOf}
+use Rattle.solver.specs.declared.Judged.{Judged}
+use Rattle.solver.specs.declared.Judged.the-variants.{Found, Refused}
+use Rattle.text.specs.Text.{hex, decimal, Puts}
+use Rattle.text.proofs.Digits.{decimal-few, hex-long, puts-then, puts-length}
+use Rattle.report.specs.Report.{refusedWord, judgedLine}
+
+-- a word, and a number behind it to the line's end
+abbrev pub numberLine : List ℕ → ℕ → List ℕ
+numberLine word x = word ++ (decimal x ++ (10 ∷ []))
+
+pub puts-number : {at r r′ r″ : ℕ} {word out mid mid′ out′ : List ℕ} (x y : ℕ) → at + length word ≤ length out → y ≡ x
+    → Puts at word out mid r → Puts r (decimal y) mid mid′ r′ → Puts r′ (10 ∷ []) mid′ out′ r″ → Puts at (numberLine word x) out out′ r″
+puts-number {out} {mid} x y room e p q s =
+    let long : length mid ≡ length out = puts-length room p in
+    puts-then (omega arith) p (puts-then (omega (arith, p .end)) (rw e at q) s)
+
+number-few : (word : List ℕ) (x : ℕ) → length (numberLine word x) ≤ length word + 21
+number-few word x = omega (arith, length-append word (decimal x ++ (10 ∷ [])), length-append (decimal x) (10 ∷ []), decimal-few x)
+
+pub judged-few : (j : Judged) → length (judgedLine j) ≤ 38
+judged-few (Found set count) = omega (arith, length-append (hex set) (numberLine (32 ∷ []) count), hex-long set, number-few (32 ∷ []) count)
+judged-few (Refused e) = omega (arith, number-few refusedWord (numberOf e))
