@@ -109,3 +109,7 @@ puts-then {at} {r} {r′} {s} {t} {out} {mid} h p q =
 -- a buffer keeps its length
 pub puts-length : {at r : ℕ} {s out out′ : List ℕ} → at + length s ≤ length out → Puts at s out out′ r → length out′ ≡ length out
 puts-length {at} {r} {s} {out} h p = ap length (p .left) ∙ pasted-length at s out (omega arith) h
+
+-- a text at the start of a buffer lies within it
+pub puts-fits : {r : ℕ} {s out out′ : List ℕ} → Puts 0 s out out′ r → r ≤ length out′
+puts-fits {s = s} {out = out} p = omega (arith, p .end, ap length (p .left), length-append s (drop (0 + length s) out))

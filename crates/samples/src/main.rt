@@ -1,0 +1,129 @@
+// Document 01's worked samples: the models (specs/), the table of the samples that are proved (proofs/), and this program, which runs
+// the others. Its stored output was worked out from document 01.
+use answers::Refusal;
+use libc::STDOUT_FILENO;
+use model::Reading;
+use solver::Judged;
+
+// Model P's file.
+const P: [u8; 52] = [
+    2,
+    0,
+    2,
+    0,
+    16,
+    0,
+    0,
+    0,
+    18,
+    0,
+    0,
+    0,
+    20,
+    0,
+    0,
+    0,
+    0,
+    1,
+    1,
+    0,
+    2,
+    0,
+    0,
+    0,
+    0,
+    0,
+    0,
+    0,
+    0,
+    0,
+    0,
+    0,
+    0,
+    0,
+    0,
+    0,
+    0,
+    0,
+    0,
+    0,
+    0,
+    0,
+    0,
+    0,
+    1,
+    0,
+    0,
+    0,
+    0,
+    0,
+    0,
+    0,
+];
+
+fn show_number(name: &[u8], number: u64) {
+    io::write_all(STDOUT_FILENO, name);
+    io::print_decimal(STDOUT_FILENO, number);
+    io::write_all(STDOUT_FILENO, b"\n");
+}
+
+fn show_pair(name: &[u8], first: u64, second: u64) {
+    io::write_all(STDOUT_FILENO, name);
+    io::print_decimal(STDOUT_FILENO, first);
+    show_number(b" ", second);
+}
+
+fn show_refusal(name: &[u8], e: Refusal) {
+    io::write_all(STDOUT_FILENO, name);
+    show_number(b"refused ", answers::number(e));
+}
+
+// A set and its count, or a refusal.
+fn show_judged(name: &[u8], j: Judged) {
+    match j {
+        Judged::Found { set, count } => show_pair(name, set, count),
+        Judged::Refused(e) => show_refusal(name, e),
+    }
+}
+
+// The lines and the levels, or a refusal.
+fn show_reading(name: &[u8], r: Reading) {
+    match r {
+        Reading::Accepted(m) => show_pair(name, m.lines as u64, m.levels as u64),
+        Reading::Refused(e) => show_refusal(name, e),
+    }
+}
+
+// A file of 64 lines and 8 levels, then with 65 lines in it, then with 9 levels too.
+fn show_sizes() {
+    let mut file = [0u8; 4184];
+    model::write(64, 8, &[0u8; 8], &[0u8; 64], &[1u64; 512], &mut file);
+    show_reading(b"64 lines, 8 levels: ", model::check(&file));
+    file[0] = 65;
+    show_reading(b"65 lines: ", model::check(&file));
+    file[2] = 9;
+    show_reading(b"65 lines, 9 levels: ", model::check(&file));
+}
+
+fn main() {
+    show_judged(b"P, ceiling 3: ", solver::solve_plain(&P, 0, 3, 3));
+    show_judged(b"P, ceiling 2: ", solver::solve_plain(&P, 0, 3, 2));
+    show_judged(
+        b"P, A = 1, B = 2, plain: ",
+        solver::solve_plain(&P, 1, 2, 3),
+    );
+    show_judged(
+        b"P, A = 1, B = 2, built-in trees: ",
+        solver::solve_built(&P, 1, 2),
+    );
+    show_sizes();
+    show_reading(b"51 bytes of P: ", model::check(&P[..51]));
+    show_reading(b"15 bytes of P: ", model::check(&P[..15]));
+    let gaps = [1u8; 1024];
+    show_judged(
+        b"P, 1023 gaps: ",
+        solver::solve_lent(&P, 0, 3, &gaps[..1023], &[]),
+    );
+    show_judged(b"P, 1024 gaps: ", solver::solve_lent(&P, 0, 3, &gaps, &[]));
+    show_number(b"share of 1 in 16: ", text::share(1, 16));
+}
