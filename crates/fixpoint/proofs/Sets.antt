@@ -4,7 +4,7 @@
 use mathlib.Core.Bool.{Bool}
 use mathlib.Core.List.{List}
 use mathlib.Core.Path.{_≡_, sym, _∙_}
-use Prim.Native.Nat.{ℕ, suc, _+_, _^_, _≤_, _<_}
+use Prim.Native.Nat.{ℕ, _+_, _^_, _≤_, _<_}
 use native.Mathlib.Decide.{ℕ-discrete}
 use native.Mathlib.Omega.{arith}
 use borrow.Author.Tests.{eqb-true, eq-eqb}
@@ -19,7 +19,7 @@ use Rattle.fixpoint.specs.Lawful.{Lawful, MonotoneQuery, Range, Between}
 use Rattle.fixpoint.specs.Levels.{least-levels, greatest-levels}
 use Rattle.fixpoint.specs.Nested.{nested}
 use Rattle.fixpoint.specs.Restricted.{restricted}
-use Rattle.fixpoint.specs.Plain.{Run, plain}
+use Rattle.fixpoint.specs.Plain.{plain}
 use Rattle.fixpoint.specs.Sets.{sets}
 use Rattle.fixpoint.proofs.Nested.{nested-laws}
 use Rattle.fixpoint.proofs.Restricted.{restricted-laws}

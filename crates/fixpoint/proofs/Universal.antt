@@ -3,7 +3,7 @@
 -- Assumes nothing.
 use mathlib.Core.Bool.{Bool, true, false, not}
 use mathlib.Core.List.{List, [], _∷_}
-use mathlib.Core.Path.{_≡_, refl, sym, _∙_, ap, subst, subst₂, fun-ext}
+use mathlib.Core.Path.{_≡_, refl, sym, _∙_, ap, subst₂, fun-ext}
 use Prim.Native.Nat.{ℕ, zero, suc, _+_, _≤_}
 use native.Mathlib.Omega.{arith}
 use Rattle.trees.specs.Tree.{children}
@@ -12,7 +12,7 @@ use Rattle.fixpoint.specs.Values.{Values}
 use Rattle.fixpoint.specs.Lawful.{Lawful, MonotoneQuery, Range}
 use Rattle.fixpoint.specs.Levels.{least-levels, greatest-levels}
 use Rattle.fixpoint.specs.Nested.{nested, extreme}
-use Rattle.fixpoint.specs.Restricted.{restricted, level, rise, fall}
+use Rattle.fixpoint.specs.Restricted.{restricted, level}
 use Rattle.fixpoint.proofs.Dual.{dual, dual-lawful, dual-range, below-dual, flip, least-flip, greatest-flip}
 use Rattle.fixpoint.proofs.Restricted.{turn, fall-is-rise}
 use Rattle.fixpoint.proofs.Reach.{reach}

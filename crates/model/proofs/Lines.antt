@@ -1,13 +1,13 @@
 -- The sections of a file: a word by its place, a run of words within a longer one, and so the words of a line; signs beside kinds.
 -- Assumes nothing.
 use mathlib.Core.Bool.{Bool, _||_}
-use mathlib.Core.List.{List, _++_}
+use mathlib.Core.List.{List}
 use mathlib.Core.Path.{_≡_, refl, _∙_, ap}
-use Prim.Native.Nat.{ℕ, zero, suc, _+_, _*_, _-_, _≤_, _<_}
-use native.Mathlib.Nat.{zero-add, suc-add, le-of-suc-le-suc}
+use Prim.Native.Nat.{ℕ, zero, suc, _+_, _*_, _<_}
+use native.Mathlib.Nat.{le-of-suc-le-suc}
 use native.Mathlib.Omega.{arith}
-use lib.ListN.{length, getD, take, drop}
-use lib.Seq.{take-add, drop-drop, take-at, drop-at}
+use lib.ListN.{getD, take, drop}
+use lib.Seq.{take-add, drop-drop}
 use Rattle.model.specs.Query.{wordsOf}
 use Rattle.model.specs.File.{numberAt, signsAt, wordsAt, wordsFrom, sections}
 use Rattle.model.specs.Checks.{some, someBelow}

@@ -14,7 +14,7 @@ use lib.Dec.{eqb}
 use lib.Pow.{mod-pow-add, pow-pos}
 use Rattle.sets.specs.Set.{isMember, intersection, isWithin}
 use Rattle.sets.proofs.Order.{digit, digit-meet}
-use Rattle.model.specs.Query.{any, all, selected, operands}
+use Rattle.model.specs.Query.{any, all, selected}
 
 pub any-append : (bs cs : List Bool) → any (bs ++ cs) ≡ (any bs || any cs)
 any-append [] cs = refl

@@ -5,7 +5,7 @@ use mathlib.Core.Path.{_≡_}
 use Prim.Native.Nat.{ℕ, zero, suc}
 use lib.ListN.{length, drop}
 use Rattle.answers.specs.Answer.{Answer, refusal, numberOf}
-use Rattle.answers.specs.Check.{firstOf, unless}
+use Rattle.answers.specs.Check.{unless}
 use Rattle.model.specs.System.{System}
 use Rattle.model.specs.Query.{query}
 use Rattle.model.specs.File.{fileLength, linesIn, levelsIn, decode, encode}

@@ -1,9 +1,9 @@
 // One query of a model.
 ghost use mathlib.Core.Path.{_≡_};
 ghost use Prim.Native.Nat.{_+_, _*_, _≤_, _<_};
-ghost use lib.ListN.{length, take, drop, getD};
+ghost use lib.ListN.{length, take, drop};
 ghost use Rattle.model.specs.Query as spec;
-ghost use Rattle.model.specs.File.{fileLength, kindsAt, wordsFrom, sections};
+ghost use Rattle.model.specs.File.{fileLength, wordsFrom, sections};
 ghost use Rattle.model.specs.Says.{queriedAnswer, queryAnswer};
 use super::checker::check;
 use super::layout::Model;

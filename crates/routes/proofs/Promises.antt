@@ -5,14 +5,12 @@ use mathlib.Core.List.{List, []}
 use mathlib.Core.Path.{_≡_, sym, _∙_, ap₂}
 use Prim.Native.Nat.{ℕ, zero, suc, _*_, _≤_, _<_}
 use native.Mathlib.Omega.{arith}
-use lib.Dec.{eqb}
 use Rattle.trees.specs.Tree.{IsTree, leaves}
 use Rattle.trees.specs.Fit.{Universal}
 use Rattle.trees.specs.Built.{built, leafCount}
 use Rattle.trees.proofs.Built.{built-tree}
 use Rattle.trees.proofs.Universal.{built-universal}
 use Rattle.fixpoint.specs.Lawful.{Range, Between}
-use Rattle.fixpoint.specs.Plain.{Run}
 use Rattle.fixpoint.specs.Sets.{sets}
 use Rattle.fixpoint.proofs.Queries.{queries-product}
 use Rattle.fixpoint.proofs.Sets.{universal-nested, plain-nested, plain-enough, restricted-between, plain-between}

@@ -2,14 +2,13 @@
 -- and where a round does not fit under what is left the whole run does not.
 -- Assumes nothing.
 use mathlib.Core.Bool.{Bool, true, false}
-use mathlib.Core.Path.{_≡_, refl, sym, _∙_, ap, ap₂}
-use Prim.Native.Nat.{ℕ, zero, suc, _+_, _-_, _≤_, _<_}
+use mathlib.Core.Path.{_≡_, refl, sym, _∙_, ap}
+use Prim.Native.Nat.{ℕ, zero, suc, _-_, _≤_, _<_}
 use native.Mathlib.Omega.{arith}
 use borrow.Author.Tests.{le-leb, lt-leb, leb-true, leb-false, eq-eqb, ne-eqb}
 use lib.Dec.{eqb, leb}
 use Rattle.fixpoint.specs.Plain.{Run, then-rounds, settle}
-use Rattle.routes.specs.Parts.{under, choose}
-use Rattle.routes.specs.declared.plain_route.Outcome.{Outcome}
+use Rattle.routes.specs.Parts.{under}
 use Rattle.routes.specs.declared.plain_route.Outcome.the-variants.{Settled, Spent}
 
 -- a run that fits, and one that does not

@@ -4,7 +4,7 @@ ghost use mathlib.Core.Bool.{true, false};
 ghost use Prim.Native.Nat.{ℕ, suc, _+_, _<_, _≤_};
 ghost use lib.ListN.{length, getD};
 ghost use Rattle.model.specs.System.{sign};
-ghost use Rattle.trees.specs.Tree.{IsTree, children};
+ghost use Rattle.trees.specs.Tree.{children};
 ghost use Rattle.routes.specs.Parts.{Held, Lent, Gives, systemIn, above, leastOf, greatestOf, restrictedFrom, queriesFrom, riseFrom, riseQueries, fallFrom, fallQueries};
 use super::step::Found;
 use super::step::bounded_step;

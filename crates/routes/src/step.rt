@@ -1,7 +1,7 @@
 // What the routes share: a level's sign, one more argument, and the bounded step with its query.
 ghost use mathlib.Core.Path.{_≡_};
 ghost use Prim.Native.Nat.{_<_};
-ghost use lib.ListN.{length, take, set};
+ghost use lib.ListN.{take};
 ghost use Rattle.sets.specs.Set.{boundedStep};
 ghost use Rattle.model.specs.System.{sign};
 ghost use Rattle.model.specs.Query.{query};

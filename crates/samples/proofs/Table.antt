@@ -1,6 +1,5 @@
 -- The samples that document 01 marks † as one table, whose rows all hold by computing the definitions.
 -- Assumes nothing.
-use mathlib.Core.Bool.{Bool, true, false}
 use mathlib.Core.List.{List, [], _∷_}
 use mathlib.Core.Path.{_≡_, refl}
 use Prim.Native.Nat.{ℕ}
@@ -10,7 +9,7 @@ use Rattle.trees.specs.Built.{built, built-children, leafCount}
 use Rattle.fixpoint.specs.Levels.{least-levels, greatest-levels}
 use Rattle.fixpoint.specs.Nested.{nested, extreme}
 use Rattle.fixpoint.specs.Restricted.{restricted, level, rise, fall, sum-over, level-queries, restricted-queries}
-use Rattle.fixpoint.specs.Plain.{Run, then-rounds, settle, plain}
+use Rattle.fixpoint.specs.Plain.{then-rounds, settle, plain}
 use Rattle.model.specs.System.{System}
 use Rattle.model.specs.Query.{selected, operands, setOf, query}
 use Rattle.routes.specs.Routes.{leastLevels, greatestLevels, nestedSet, plainRun, restrictedSet, restrictedCount}

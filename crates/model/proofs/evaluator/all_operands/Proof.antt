@@ -1,16 +1,14 @@
 -- `model::evaluator::all_operands` meets its contract: the operands of the levels passed are all set, and the first word with one that is not decides.
 -- Assumes nothing.
 use denote.Ref.{now}
-use mathlib.Core.Bool.{Bool, true, not, _&&_}
-use mathlib.Core.List.{List}
+use mathlib.Core.Bool.{Bool, _&&_}
 use mathlib.Core.Path.{_≡_, refl, sym, _∙_, ap}
 use Prim.Native.Nat.{ℕ, _+_, _-_, _≤_}
 use native.Mathlib.Omega.{arith}
 use borrow.Author.Needs.{needs}
 use borrow.Author.Tests.{eq-eqb, ne-eqb}
-use lib.Dec.{eqb}
 use lib.ListN.{getD}
-use Rattle.sets.specs.Set.{intersection, isWithin}
+use Rattle.sets.specs.Set.{isWithin}
 use Rattle.model.specs.Query.{all}
 use Rattle.model.proofs.Operands.{from, from-start, from-end, all-step}
 use Rattle.model.proofs.evaluator.all_operands.Statement.{statement}

@@ -1,8 +1,7 @@
 -- `model::evaluator::any_operand` meets its contract: the operands of the levels passed are unset, and the first word with a set operand decides.
 -- Assumes nothing.
 use denote.Ref.{now}
-use mathlib.Core.Bool.{Bool, true, not, _||_}
-use mathlib.Core.List.{List}
+use mathlib.Core.Bool.{Bool, not, _||_}
 use mathlib.Core.Path.{_≡_, refl, sym, _∙_, ap}
 use Prim.Native.Nat.{ℕ, _+_, _-_, _≤_}
 use native.Mathlib.Omega.{arith}
@@ -10,7 +9,7 @@ use borrow.Author.Needs.{needs}
 use borrow.Author.Tests.{eq-eqb, ne-eqb}
 use lib.Dec.{eqb}
 use lib.ListN.{getD}
-use Rattle.sets.specs.Set.{intersection, isWithin}
+use Rattle.sets.specs.Set.{intersection}
 use Rattle.model.specs.Query.{any}
 use Rattle.model.proofs.Operands.{from, from-start, from-end, any-step}
 use Rattle.model.proofs.evaluator.any_operand.Statement.{statement}

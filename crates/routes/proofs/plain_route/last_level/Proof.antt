@@ -1,6 +1,5 @@
 -- `routes::plain_route::last_level` meets its contract: with no level left a run is one query.
 -- Assumes nothing.
-use mathlib.Core.Path.{_≡_}
 use native.Mathlib.Omega.{arith}
 use borrow.Author.Needs.{needs}
 use borrow.Author.Tests.{le-leb, lt-leb}
