@@ -23,7 +23,7 @@ use Rattle.model.proofs.Accepted.{after-file}
 use Rattle.model.proofs.Passed.{written-fits, written-decodes, written-right, read-encodes, read-length, read-sliced, read-writable}
 
 -- the number of an operation that accepts
-none-of : (e : ℕ) (a b : Answer) → a ≡ unless e b → b .number ≡ 0 → a .number ≡ 0 → e ≡ 0
+pub none-of : (e : ℕ) (a b : Answer) → a ≡ unless e b → b .number ≡ 0 → a .number ≡ 0 → e ≡ 0
 none-of e a b says clear ok = sym (unless-number e b clear) ∙ ap (λ (x : Answer). x .number) (sym says) ∙ ok
 
 -- reading a right file into slices that are long enough
