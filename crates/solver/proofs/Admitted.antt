@@ -1,10 +1,10 @@
 -- What it means that a file and its bounds are admitted: the file is whole, the bounds are a range of its lines, and no number up to 9 applies.
 -- Assumes nothing.
-use mathlib.Core.Bool.{Bool, true, false, not, _||_}
+use mathlib.Core.Bool.{false, not, _||_}
 use mathlib.Mathlib.Data.Bool.Basic.{or-eq-false-eq-eq-false-and-eq-false as neither}
 use mathlib.Core.List.{List, [], _∷_, _++_}
-use mathlib.Core.Path.{_≡_, refl, sym, _∙_, ap}
-use Prim.Native.Nat.{ℕ, _≤_, _<_}
+use mathlib.Core.Path.{_≡_, refl, sym, _∙_, ap, subst}
+use Prim.Native.Nat.{ℕ, _≤_}
 use native.Mathlib.Omega.{arith}
 use borrow.Author.Tests.{not-false}
 use Rattle.answers.specs.Answer.{Answer, refusal, numberOf}
@@ -17,14 +17,15 @@ use Rattle.sets.proofs.Range.{full-below}
 use Rattle.fixpoint.specs.Lawful.{Range}
 use Rattle.fixpoint.specs.Sets.{sets}
 use Rattle.fixpoint.proofs.Sets.{sets-range}
-use Rattle.model.specs.File.{linesIn, levelsIn, decode, sections}
+use Rattle.model.specs.System.{System}
+use Rattle.model.specs.File.{linesIn, levelsIn, decode}
 use Rattle.model.specs.Checks.{fileChecks, fileNumber}
 use Rattle.model.specs.Says.{readingAnswer, sized}
 use Rattle.model.specs.declared.layout.Model.{Model}
 use Rattle.model.specs.declared.layout.Reading.{Reading}
 use Rattle.model.specs.declared.layout.Reading.the-variants as reading
 use Rattle.model.proofs.Refusals.{AcceptedAs, RefusedAs, accepted-as, refused-as}
-use Rattle.model.proofs.Accepted.{Accepted, accepted, decoded, limits, room}
+use Rattle.model.proofs.Accepted.{accepted, decoded, limits, room}
 use Rattle.routes.specs.Parts.{Held, Sized, systemIn}
 use Rattle.solver.specs.Checks.{misplaced, boundChecks, builtNumber}
 
@@ -43,6 +44,10 @@ in-range n a b h =
     let first = neither (not (isWithin a (full n))) (not (isWithin b (full n)) || not (isWithin a b)) .0 h in
     let rest = neither (not (isWithin b (full n))) (not (isWithin a b)) .0 (first .1) in
     sets-range n a b (within-le a b (not-false (isWithin a b) (rest .1))) (full-below n b (within-le b (full n) (not-false (isWithin b (full n)) (rest .0))))
+
+-- the bounds are a range of as many lines as the counts say
+pub counted-range : {file : List ℕ} {a b : ℕ} {m : Model} → Admitted file a b m → Range (sets (m .lines)) a b
+counted-range {file} {a} {b} {m} ad = subst (λ (s : System). Range (sets (s .lines)) a b) (sym (ad .system)) (ad .range)
 
 module _ (file : List ℕ) (a b : ℕ) where
   -- no check up to 9 applies

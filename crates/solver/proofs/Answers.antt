@@ -4,14 +4,14 @@
 use mathlib.Core.Bool.{Bool, true, false, cond, true≢false, _||_}
 use mathlib.Core.List.{List, [], _∷_, _++_}
 use mathlib.Core.Path.{_≡_, refl, sym, _∙_, ap, ap₂}
-use Prim.Native.Nat.{ℕ, zero, suc, _+_, _-_, _≤_, _<_}
+use Prim.Native.Nat.{ℕ, _-_, _≤_, _<_}
 use native.Mathlib.Omega.{arith}
 use mathlib.Mathlib.Data.Bool.Basic.{or-eq-false-eq-eq-false-and-eq-false as neither}
 use borrow.Author.Tests.{le-ltb, lt-ltb, ltb-false}
 use lib.Dec.{ltb}
-use Rattle.answers.specs.Answer.{Answer, refusal, numberOf}
+use Rattle.answers.specs.Answer.{Answer}
 use lib.ListN.{length}
-use Rattle.answers.specs.Check.{Check, _if_, firstOf, unless, outside}
+use Rattle.answers.specs.Check.{Check, _if_, firstOf, outside}
 use Rattle.answers.specs.declared.Refusal.{Refusal}
 use Rattle.answers.specs.declared.Refusal.the-variants.{Ceiling, Tree}
 use Rattle.answers.proofs.Checks.{first-before, inside}
@@ -22,17 +22,16 @@ use Rattle.model.specs.File.{decode}
 use Rattle.model.specs.Checks.{some}
 use Rattle.model.specs.declared.layout.Model.{Model}
 use Rattle.model.proofs.Refusals.{RefusedAs}
-use Rattle.routes.specs.Parts.{systemIn, above, plainFrom, under, restrictedFrom, queriesFrom, leastOf, greatestOf, Gives, Lent}
-use Rattle.routes.specs.Routes.{leastLevels, greatestLevels, builtLeast, builtGreatest, nestedSet, plainRun, restrictedSet, restrictedCount}
+use Rattle.routes.specs.Parts.{systemIn, under, Lent}
+use Rattle.routes.specs.Routes.{leastLevels, greatestLevels, builtLeast, builtGreatest, plainRun, restrictedSet, restrictedCount}
 use Rattle.routes.specs.declared.step.Found.{Found}
 use Rattle.routes.specs.declared.plain_route.Outcome.{Outcome}
 use Rattle.routes.specs.declared.plain_route.Outcome.the-variants as outcome
-use Rattle.routes.proofs.Places.{above-none}
-use Rattle.routes.proofs.Promises.{plain-is-nested, plain-rounds, built-product, built-nested, lent-product, lent-nested}
+use Rattle.routes.proofs.Promises.{plain-is-nested, built-product, built-nested, lent-product, lent-nested}
 use Rattle.routes.proofs.Rounds.{Fits, settled-fits, spent-exceeds}
+use Rattle.view.specs.View.{PlainIs, BuiltIs, LentIs}
 use Rattle.solver.specs.Checks.{badTree, boundChecks, builtNumber, plainNumber, treeChecks, lentNumber}
-use Rattle.solver.specs.Says.{judged, judgedAnswer, PlainSays, BuiltSays, LentSays}
-use Rattle.solver.specs.declared.Judged.{Judged}
+use Rattle.solver.specs.Says.{judged, PlainSays, BuiltSays, LentSays}
 use Rattle.solver.specs.declared.Judged.the-variants as judgement
 use Rattle.solver.proofs.Admitted.{Admitted, after-bounds, handed-on, handed-on-bounds}
 
@@ -65,15 +64,8 @@ module _ (file : List ℕ) (a b : ℕ) where
     plain-refused h = record { answer = sym (handed-on file a b ceilingChecks _ h); nested = λ z. absurd (still-refused ceilingChecks h z) }
 
     -- what the plain evaluator gives, for the file's own system
-    pub plain-outcome : {m : Model} (r : Outcome) (xs : List ℕ) → Admitted file a b m
-        → ((rounds : ℕ) → ceiling < rounds → r ≡ under ceiling (plainFrom rounds (systemIn file m) a b (m .levels) (above m (m .levels) xs)))
-        → r ≡ under ceiling (plainRun (decode file) a b)
-    plain-outcome {m} r xs ad h =
-        let rounds : ℕ = suc (ceiling + decode file .lines) in
-        h rounds (omega arith)
-        ∙ ap (λ (ys : List ℕ). under ceiling (plainFrom rounds (systemIn file m) a b (m .levels) ys)) (above-none m xs)
-        ∙ ap (λ (s : System). under ceiling (plainFrom rounds s a b (s .levels) [])) (ad .system)
-        ∙ ap (under ceiling) (plain-rounds (decode file) a b (ad .range) rounds (omega arith))
+    pub plain-outcome : {m : Model} (r : Outcome) → Admitted file a b m → PlainIs (systemIn file m) a b ceiling r → PlainIs (decode file) a b ceiling r
+    plain-outcome r ad h = h ∙ ap (λ (s : System). under ceiling (plainRun s a b)) (ad .system)
 
     pub plain-spent : {m : Model} → Admitted file a b m → under ceiling (plainRun (decode file) a b) ≡ outcome.Spent → PlainSays file a b ceiling (judgement.Refused Ceiling)
     unfolding plainNumber
@@ -95,32 +87,16 @@ module _ (file : List ℕ) (a b : ℕ) where
           nested = λ z. sym (f .value) ∙ plain-is-nested (decode file) a b (ad .range);
         }
 
-  -- what an evaluator over two trees gives, for the file's own system
-  restricted-outcome : {m : Model} {set count : ℕ} (xs u v : List ℕ) → Admitted file a b m
-      → set ≡ restrictedFrom (systemIn file m) (m .levels) (above m (m .levels) xs) a b u v → count ≡ queriesFrom (systemIn file m) (m .levels) u v
-      → judged set count ≡ judged (restrictedSet (decode file) a b u v) (restrictedCount (decode file) u v)
-  restricted-outcome {m} xs u v ad es ec =
-      ap₂ judged
-      (es ∙ ap (λ (ys : List ℕ). restrictedFrom (systemIn file m) (m .levels) ys a b u v) (above-none m xs) ∙ ap (λ (s : System). restrictedSet s a b u v) (ad .system))
-      (ec ∙ ap (λ (s : System). restrictedCount s u v) (ad .system))
-
   -- judging by built-in trees
   pub built-refused : {e : Refusal} → RefusedAs (builtNumber file a b) e → BuiltSays file a b (judgement.Refused e)
   built-refused h =
       let never : builtNumber file a b ≡ 0 → ⊥ = λ z. let p : 0 < builtNumber file a b = h .positive in omega arith in
       record { answer = sym (handed-on-bounds file a b _ h); product = λ z. absurd (never z); nested = λ z. absurd (never z) }
 
-  pub built-found : {m : Model} (r : Found) (xs : List ℕ) → Admitted file a b m
-      → (let s = systemIn file m in
-      let u = builtLeast s (m .lines) in
-      let v = builtGreatest s (m .lines) in
-      Gives r (restrictedFrom s (m .levels) (above m (m .levels) xs) a b u v) (queriesFrom s (m .levels) u v))
-      → BuiltSays file a b (judgement.Found (r .set) (r .count))
-  built-found {m} r xs ad g =
+  pub built-found : {m : Model} (r : Found) → Admitted file a b m → BuiltIs (systemIn file m) a b r → BuiltSays file a b (judgement.Found (r .set) (r .count))
+  built-found r ad g =
       let over : System → Answer = λ s. judged (restrictedSet s a b (builtLeast s (s .lines)) (builtGreatest s (s .lines))) (restrictedCount s (builtLeast s (s .lines)) (builtGreatest s (s .lines))) in
-      let own : judged (r .set) (r .count) ≡ over (systemIn file m)
-      = ap₂ judged (g .value ∙ ap (λ (ys : List ℕ). restrictedFrom (systemIn file m) (m .levels) ys a b (builtLeast (systemIn file m) (m .lines)) (builtGreatest (systemIn file m) (m .lines))) (above-none m xs)) (g .queries) in
-      let same : judged (r .set) (r .count) ≡ over (decode file) = own ∙ ap over (ad .system) in
+      let same : judged (r .set) (r .count) ≡ over (decode file) = ap₂ judged (g .value) (g .queries) ∙ ap over (ad .system) in
       record {
         answer = rw (ad .number) same;
         product = λ z. ap (λ (x : Answer). x .count) same ∙ built-product (decode file) (decode file .lines) (decode file .lines) (ad .some-line) (ad .some-line);
@@ -148,13 +124,13 @@ module _ (file : List ℕ) (a b : ℕ) where
         either false true e = refl
         either false false e = absurd (true≢false (sym e))
 
-    pub lent-found : {m : Model} (r : Found) (xs : List ℕ) → Admitted file a b m → badTree (leastLevels (decode file)) u ≡ false → badTree (greatestLevels (decode file)) v ≡ false
-        → Gives r (restrictedFrom (systemIn file m) (m .levels) (above m (m .levels) xs) a b u v) (queriesFrom (systemIn file m) (m .levels) u v)
-        → LentSays file a b u v (judgement.Found (r .set) (r .count))
+    pub lent-found : {m : Model} (r : Found) → Admitted file a b m → badTree (leastLevels (decode file)) u ≡ false → badTree (greatestLevels (decode file)) v ≡ false
+        → LentIs (systemIn file m) a b u v r → LentSays file a b u v (judgement.Found (r .set) (r .count))
     unfolding lentNumber
-    lent-found {m} r xs ad hp hq g =
+    lent-found r ad hp hq g =
+        let over : System → Answer = λ s. judged (restrictedSet s a b u v) (restrictedCount s u v) in
         let zero-number : lentNumber file a b u v ≡ 0 = after-bounds file a b (treeChecks file u v) (ad .number) ∙ rw (hp, hq) in
-        let same : judged (r .set) (r .count) ≡ judged (restrictedSet (decode file) a b u v) (restrictedCount (decode file) u v) = restricted-outcome xs u v ad (g .value) (g .queries) in
+        let same : judged (r .set) (r .count) ≡ over (decode file) = ap₂ judged (g .value) (g .queries) ∙ ap over (ad .system) in
         record {
           answer = rw zero-number same;
           product = λ z. ap (λ (x : Answer). x .count) same ∙ lent-product (decode file) u v (good-tree (leastLevels (decode file)) u hp .tree) (good-tree (greatestLevels (decode file)) v hq .tree);

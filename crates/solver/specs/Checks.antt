@@ -7,7 +7,6 @@ use lib.Dec.{ltb}
 use lib.ListN.{length}
 use Rattle.answers.specs.Check.{Check, _if_, firstOf, outside}
 use Rattle.sets.specs.Set.{isWithin}
-use Rattle.fixpoint.specs.Plain.{Run}
 use Rattle.model.specs.File.{linesIn, decode}
 use Rattle.model.specs.Checks.{some, strays, fileChecks}
 use Rattle.routes.specs.Routes.{leastLevels, greatestLevels, plainRun}

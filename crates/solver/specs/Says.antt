@@ -8,7 +8,6 @@ use Rattle.answers.specs.Check.{unless}
 use Rattle.trees.specs.Tree.{leaves}
 use Rattle.trees.specs.Fit.{Universal}
 use Rattle.trees.specs.Built.{leafCount}
-use Rattle.fixpoint.specs.Plain.{Run}
 use Rattle.model.specs.File.{decode}
 use Rattle.model.specs.declared.layout.Reading.{Reading}
 use Rattle.model.specs.declared.layout.Reading.the-variants as reading

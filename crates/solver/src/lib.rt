@@ -1,9 +1,7 @@
 // The public operations that judge a model. Each takes all inputs, ends, and answers a set with its count or one refusal
 // by document 01's order. Definitions: specs/.
 ghost use mathlib.Core.Path.{_≡_};
-ghost use mathlib.Core.Bool.{_||_};
 ghost use Prim.Native.Nat.{_≤_};
-ghost use lib.ListN.{length};
 ghost use Rattle.answers.specs.Check.{unless};
 ghost use Rattle.model.specs.File.{linesIn, levelsIn};
 ghost use Rattle.model.specs.Says.{readingAnswer, sized};
@@ -69,8 +67,7 @@ pub fn solve_plain(file: &[u8], a: u64, b: u64, ceiling: u64) -> Judged
     let Reading::Accepted(m) = counts else {
         return hand_on(counts);
     };
-    let xs = [0u64; 8];
-    let run = routes::plain_level(file, m, a, b, m.levels, &xs, ceiling);
+    let run = view::plain_of(file, m.lines, m.levels, a, b, ceiling);
     let Outcome::Settled { set, left } = run else {
         return Judged::Refused(Refusal::Ceiling);
     };
@@ -88,8 +85,7 @@ pub fn solve_built(file: &[u8], a: u64, b: u64) -> Judged
     let Reading::Accepted(m) = counts else {
         return hand_on(counts);
     };
-    let xs = [0u64; 8];
-    let found = routes::built_level(file, m, m.levels, &xs, a, b, m.lines, m.lines);
+    let found = view::built_of(file, m.lines, m.levels, a, b);
     Judged::Found {
         set: found.set,
         count: found.count,
@@ -150,8 +146,7 @@ pub fn solve_lent(file: &[u8], a: u64, b: u64, u: &[u8], v: &[u8]) -> Judged
     if tree_is_bad(v, greatest) {
         return Judged::Refused(Refusal::Tree);
     }
-    let xs = [0u64; 8];
-    let found = routes::lent_level(file, m, m.levels, &xs, a, b, least, u, greatest, v);
+    let found = view::lent_of(file, m.lines, m.levels, a, b, least, u, greatest, v);
     Judged::Found {
         set: found.set,
         count: found.count,

@@ -1,7 +1,6 @@
 -- `solver::solve_built` meets its contract: what `admit` refuses is handed on, and the evaluator's set and count are those of the file's own system.
 -- Assumes nothing.
 use mathlib.Core.Path.{sym, _∙_, ap, subst}
-use native.Mathlib.Nat.{le-refl}
 use denote.Ref.{now}
 use Rattle.solver.specs.Says.{handedOn, BuiltSays}
 use Rattle.solver.specs.declared.Judged.{Judged}
@@ -36,13 +35,11 @@ returns c =
     subst (λ (r : Judged). BuiltSays (now (start .args .file)) (start .args .a) (start .args .b) r) (sym (c .hand-on .ensures ∙ ap handedOn told))
     (built-refused _ _ _ (turned-down _ _ _ (c .before .before .before .admit .ensures) told))
 
-built-level-requires : tie.Need-built-level-requires
-built-level-requires c κs =
-    let ad = known (c .before) in
-    ((ad .held, ad .held .few-levels), (le-refl _, (ad .sized-lines, ad .sized-lines)))
+built-of-requires : tie.Need-built-of-requires
+built-of-requires c κs = (known c .held, known c .sized-lines)
 
 returns-2 : tie.Need-returns-2
-returns-2 c = built-found _ _ _ (c .built-level .result) _ (known (c .before .before)) (c .built-level .ensures)
+returns-2 c = built-found _ _ _ (c .built-of .result) (known (c .before)) (c .built-of .ensures)
 
 pub solve-built-spec : {M : Type 1} → statement M
 solve-built-spec =
@@ -53,5 +50,5 @@ solve-built-spec =
     enum-told
     hand-on-requires
     returns
-    built-level-requires
+    built-of-requires
     returns-2)

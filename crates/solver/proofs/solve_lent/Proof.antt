@@ -2,10 +2,8 @@
 -- and the evaluator's set and count are those of that system.
 -- Assumes nothing.
 use mathlib.Core.Bool.{Bool}
-use mathlib.Core.List.{List}
 use mathlib.Core.Path.{_≡_, refl, sym, _∙_, ap, subst}
 use Prim.Native.Nat.{ℕ, _-_}
-use native.Mathlib.Nat.{le-refl}
 use native.Mathlib.Omega.{arith}
 use denote.Ref.{now}
 use Rattle.model.specs.System.{sign}
@@ -95,18 +93,18 @@ tree-is-bad-requires-2 c κs = search needs
 returns-3 : tie.Need-returns-3
 returns-3 c = lent-bad _ _ _ _ _ _ _ (known (c .before .before .before .before .before .before)) (first-tree (c .before .before .before) (c .before .before .if1 .left)) (second-tree (c .before) (c .if2 .taken)) refl
 
-lent-level-requires : tie.Need-lent-level-requires
-lent-level-requires c κs =
-    let start = c .before .before .before .before .before .before .before .before .before .before .before .before .before .before in
-    let ad = known (c .before .before .before .before .before .before .before) in
-    let hs = heights (c .before .before .before .before .before) in
-    let u = good-tree _ (now (start .args .u)) (sym (c .before .before .before .before .tree-is-bad .ensures) ∙ c .before .before .before .if1 .left) in
-    let v = good-tree _ (now (start .args .v)) (sym (c .before .before .tree-is-bad2 .ensures) ∙ c .before .if2 .left) in
-    ((ad .held, ad .held .few-levels), (le-refl _, ((hs .0, u), (hs .1, v))))
+lent-of-requires : tie.Need-lent-of-requires
+lent-of-requires c κs =
+    let start = c .before .before .before .before .before .before .before .before .before .before .before .before .before in
+    let ad = known (c .before .before .before .before .before .before) in
+    let hs = heights (c .before .before .before .before) in
+    let u = good-tree _ (now (start .args .u)) (sym (c .before .before .before .tree-is-bad .ensures) ∙ c .before .before .if1 .left) in
+    let v = good-tree _ (now (start .args .v)) (sym (c .before .tree-is-bad2 .ensures) ∙ c .if2 .left) in
+    (ad .held, record { least = hs .0; first = u; greatest = hs .1; second = v })
 
 returns-4 : tie.Need-returns-4
 returns-4 c =
-    lent-found _ _ _ _ _ (c .lent-level .result) _ (known (c .before .before .before .before .before .before .before .before)) (first-tree (c .before .before .before .before .before) (c .before .before .before .before .if1 .left)) (second-tree (c .before .before .before) (c .before .before .if2 .left)) (c .lent-level .ensures)
+    lent-found _ _ _ _ _ (c .lent-of .result) (known (c .before .before .before .before .before .before .before)) (first-tree (c .before .before .before .before) (c .before .before .before .if1 .left)) (second-tree (c .before .before) (c .before .if2 .left)) (c .lent-of .ensures)
 
 pub solve-lent-spec : {M : Type 1} → statement M
 solve-lent-spec =
@@ -123,5 +121,5 @@ solve-lent-spec =
     returns-2
     tree-is-bad-requires-2
     returns-3
-    lent-level-requires
+    lent-of-requires
     returns-4)

@@ -1,7 +1,6 @@
 -- `solver::solve_plain` meets its contract: what `admit` refuses is handed on, and the evaluator's outcome is that of the file's own system.
 -- Assumes nothing.
 use mathlib.Core.Path.{_≡_, sym, _∙_, ap, subst}
-use native.Mathlib.Nat.{le-refl}
 use native.Mathlib.Omega.{arith}
 use denote.Ref.{now}
 use Rattle.model.specs.File.{decode}
@@ -11,7 +10,7 @@ use Rattle.routes.specs.declared.plain_route.Outcome.the-variants.{Settled}
 use Rattle.routes.proofs.Rounds.{settled-fits}
 use Rattle.solver.specs.Says.{handedOn, PlainSays}
 use Rattle.solver.specs.declared.Judged.{Judged}
-use Rattle.solver.proofs.Admitted.{Admitted, admitted, turned-down}
+use Rattle.solver.proofs.Admitted.{Admitted, admitted, counted-range, turned-down}
 use Rattle.solver.proofs.Answers.{plain-refused, plain-outcome, plain-spent, plain-found}
 use borrow.Author.Needs.{needs}
 use Rattle.solver.proofs.solve_plain.Statement.{statement}
@@ -24,12 +23,12 @@ known : (c : tie.After-known-told) →
 known c = admitted _ _ _ (c .before .before .before .admit .ensures) (c .before .counts .given .1)
 
 -- the evaluator's outcome
-outcome : (c : tie.After-plain-level) →
-    let start = c .before .before .before .before .before .before .before in
-    c .plain-level .result ≡ under (start .args .ceiling) (plainRun (decode (now (start .args .file))) (start .args .a) (start .args .b))
+outcome : (c : tie.After-plain-of) →
+    let start = c .before .before .before .before .before .before in
+    c .plain-of .result ≡ under (start .args .ceiling) (plainRun (decode (now (start .args .file))) (start .args .a) (start .args .b))
 outcome c =
-    let start = c .before .before .before .before .before .before .before in
-    plain-outcome (now (start .args .file)) (start .args .a) (start .args .b) (start .args .ceiling) (c .plain-level .result) _ (known (c .before .before)) (c .plain-level .ensures)
+    let start = c .before .before .before .before .before .before in
+    plain-outcome (now (start .args .file)) (start .args .a) (start .args .b) (start .args .ceiling) (c .plain-of .result) (known (c .before)) (c .plain-of .ensures)
 
 admit-requires : tie.Need-admit-requires
 admit-requires c κs = search needs
@@ -51,8 +50,8 @@ returns c =
     subst (λ (r : Judged). PlainSays file (start .args .a) (start .args .b) (start .args .ceiling) r) (sym (c .hand-on .ensures ∙ ap handedOn told))
     (plain-refused file (start .args .a) (start .args .b) (start .args .ceiling) (turned-down file (start .args .a) (start .args .b) (c .before .before .before .admit .ensures) told))
 
-plain-level-requires : tie.Need-plain-level-requires
-plain-level-requires c κs = ((known (c .before) .held, known (c .before) .held .few-levels), le-refl _)
+plain-of-requires : tie.Need-plain-of-requires
+plain-of-requires c κs = (known c .held, counted-range (known c))
 
 enum-known-run : tie.Need-enum-known-run
 enum-known-run c = search needs
@@ -61,22 +60,22 @@ enum-told-2 : tie.Need-enum-told-2
 enum-told-2 c = search needs
 
 returns-2 : tie.Need-returns-2
-returns-2 c = plain-spent _ _ _ _ (known (c .before .before .before .before)) (sym (outcome (c .before .before)) ∙ c .enum-told2 .given .1)
+returns-2 c = plain-spent _ _ _ _ (known (c .before .before .before)) (sym (outcome (c .before .before)) ∙ c .enum-told2 .given .1)
 
 settled : (c : tie.After-known-told2) →
-    let start = c .before .before .before .before .before .before .before .before .before .before in
+    let start = c .before .before .before .before .before .before .before .before .before in
     under (start .args .ceiling) (plainRun (decode (now (start .args .file))) (start .args .a) (start .args .b)) ≡ Settled (c .before .run .given .0 .0) (c .before .run .given .0 .1 .0)
 settled c = sym (outcome (c .before .before .before)) ∙ c .before .run .given .1
 
-sub-t13 : tie.Need-sub-t13
-sub-t13 c =
-    let start = c .before .before .before .before .before .before .before .before .before .before in
+sub-t11 : tie.Need-sub-t11
+sub-t11 c =
+    let start = c .before .before .before .before .before .before .before .before .before in
     let run = plainRun (decode (now (start .args .file))) (start .args .a) (start .args .b) in
     let over = settled-fits (start .args .ceiling) run (c .before .run .given .0 .0) (c .before .run .given .0 .1 .0) (settled c) .over in
     omega arith
 
 returns-3 : tie.Need-returns-3
-returns-3 c = plain-found _ _ _ _ _ _ (known (c .before .before .before .before .before)) (settled c)
+returns-3 c = plain-found _ _ _ _ _ _ (known (c .before .before .before .before)) (settled c)
 
 pub solve-plain-spec : {M : Type 1} → statement M
 solve-plain-spec =
@@ -87,9 +86,9 @@ solve-plain-spec =
     enum-told
     hand-on-requires
     returns
-    plain-level-requires
+    plain-of-requires
     enum-known-run
     enum-told-2
     returns-2
-    sub-t13
+    sub-t11
     returns-3)

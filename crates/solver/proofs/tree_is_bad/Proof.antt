@@ -1,8 +1,8 @@
 -- `solver::tree_is_bad` meets its contract. The loop's invariant: no gap passed is 0 or above the height. The measure is the gaps left.
 -- Assumes nothing.
-use mathlib.Core.Bool.{true, false, or-true}
+use mathlib.Core.Bool.{true, or-true}
 use mathlib.Core.List.{List}
-use mathlib.Core.Path.{_≡_, refl, sym, _∙_, ap}
+use mathlib.Core.Path.{_≡_, sym}
 use Prim.Native.Nat.{ℕ, _-_, _≤_, _<_}
 use native.Mathlib.Omega.{arith}
 use borrow.Author.Count.{below-none, below-more}
@@ -11,7 +11,6 @@ use denote.Ref.{now}
 use lib.Dec.{ltb}
 use lib.ListN.{length, getD}
 use Rattle.answers.specs.Check.{outside}
-use Rattle.model.specs.Checks.{some}
 use Rattle.solver.specs.Checks.{badTree}
 use Rattle.model.proofs.Searches.{NoneBelow, some-true, some-false}
 use borrow.Author.Needs.{needs}

@@ -1,0 +1,42 @@
+-- A model in use (document 01): a lent file with its two counts beside it, and what the three judgings of it give.
+-- Assumes nothing.
+use mathlib.Core.List.{List}
+use mathlib.Core.Path.{_≡_}
+use Prim.Native.Nat.{ℕ}
+use Rattle.model.specs.declared.layout.Model.{Model}
+use Rattle.model.specs.System.{System}
+use Rattle.routes.specs.Parts.{Held, Lent, Gives, under, systemIn}
+use Rattle.routes.specs.Routes.{leastLevels, greatestLevels, builtLeast, builtGreatest, plainRun, restrictedSet, restrictedCount}
+use Rattle.routes.specs.declared.step.Found.{Found}
+use Rattle.routes.specs.declared.plain_route.Outcome.{Outcome}
+
+-- the two counts as a value of the model's type
+abbrev pub countsOf : ℕ → ℕ → Model
+countsOf n d = record { lines = n; levels = d }
+
+-- the system of a file with n lines and d levels
+abbrev pub systemAt : List ℕ → ℕ → ℕ → System
+systemAt file n d = systemIn file (countsOf n d)
+
+-- the file is as long as its counts say
+abbrev pub InUse : List ℕ → ℕ → ℕ → Type 0
+InUse file n d = Held file (countsOf n d)
+
+-- the outcome of the plain route under a ceiling
+abbrev pub PlainIs : System → ℕ → ℕ → ℕ → Outcome → Type 0
+PlainIs s a b ceiling r = r ≡ under ceiling (plainRun s a b)
+
+-- the restricted set over two trees, with its queries
+abbrev pub LentIs : System → ℕ → ℕ → List ℕ → List ℕ → Found → Type 0
+LentIs s a b u v r = Gives r (restrictedSet s a b u v) (restrictedCount s u v)
+
+-- the same over the built-in trees for the system's lines
+abbrev pub BuiltIs : System → ℕ → ℕ → Found → Type 0
+BuiltIs s a b r = LentIs s a b (builtLeast s (s .lines)) (builtGreatest s (s .lines)) r
+
+-- trees that may be lent: as high as the system's least and greatest levels, and not too long
+pub record Fitting (s : System) (hu : ℕ) (u : List ℕ) (hv : ℕ) (v : List ℕ) : Type 0 where
+  pub least : hu ≡ leastLevels s
+  pub first : Lent hu u
+  pub greatest : hv ≡ greatestLevels s
+  pub second : Lent hv v
