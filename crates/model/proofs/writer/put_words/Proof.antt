@@ -1,3 +1,5 @@
+-- `model::writer::put_words` meets its contract: after i words the slice begins with their bytes, and the rest is as it was.
+-- Assumes nothing.
 use mathlib.Core.List.{List, _++_}
 use mathlib.Core.Path.{_≡_, refl, sym, _∙_, ap, ap₂}
 use Prim.Native.Nat.{ℕ, _+_, _-_, _*_, _≤_, _<_, zero-le}
