@@ -31,6 +31,7 @@ const QUICK: Effort = Effort { samples: 5, seconds: 0.005, most_queries: 500_000
 struct Times {
     engine: f64,
     rust: f64,
+    ratio: f64,
 }
 
 fn median(mut times: Vec<f64>) -> f64 {
@@ -74,7 +75,9 @@ fn measure(effort: Effort, engine: &dyn Fn() -> Answer, rust: &dyn Fn() -> Answe
             engine_times.push(timed(calls, engine).1);
         }
     }
-    (answer, Times { engine: median(engine_times), rust: median(rust_times) })
+    // The ratio of neighbours in time: a machine that slows down in between slows both.
+    let ratio = median(engine_times.iter().zip(&rust_times).map(|(engine, rust)| engine / rust).collect());
+    (answer, Times { engine: median(engine_times), rust: median(rust_times), ratio })
 }
 
 #[derive(Clone, Copy, Debug, PartialEq)]
@@ -223,7 +226,7 @@ fn row(effort: Effort, subject: &Subject, route: Route, before: Option<f64>) -> 
         time(times.rust),
         rate(times.engine),
         rate(times.rust),
-        times.engine / times.rust,
+        times.ratio,
         before.map_or(String::new(), |before| format!("{:.1}", times.engine / before)),
     );
     Some(times.engine)
@@ -286,7 +289,7 @@ fn run_on(who: &str, kib: &str) {
 
 fn benchmark(effort: Effort) {
     println!("Time of one judgement between empty and full, the engine's and Rust's, the median of");
-    println!("several calls in turn; millions of queries a second; ratio: engine's time / Rust's;");
+    println!("several calls in turn; millions of queries a second; ratio: median of engine's time / Rust's;");
     println!("growth: engine's time / the row's before. Signs and kinds alternate.");
 
     for (route, title) in [
