@@ -1,6 +1,6 @@
 //! Speed of the engine beside the same algorithm in safe Rust, both called in turn in one run.
 //!
-//! `cargo run --release` takes a minute or two, `cargo run --release -- --quick` some seconds.
+//! `cargo run --release` takes some minutes, `cargo run --release -- --quick` some seconds.
 
 use std::hint::black_box;
 use std::process::{Command, Stdio};
@@ -16,18 +16,25 @@ const CEILING: u64 = 200_000;
 /// How much is measured.
 #[derive(Clone, Copy)]
 struct Effort {
+    /// Random models of each row. How well the processor foresees the query's branches differs from model to model and
+    /// from one placement of the code to the next, so that one model alone shows chance.
+    models: u64,
+    /// The same for a row of more than a million queries a model.
+    large_models: u64,
     /// Of each row; their median is printed.
     samples: usize,
-    /// That a sample takes at the least, by repeating the call.
+    /// That a sample takes at the least, by repeating the calls.
     seconds: f64,
-    /// Of a row; larger ones are left out.
+    /// Of a model; larger ones are left out.
     most_queries: u64,
 }
 
-const FULL: Effort = Effort { samples: 11, seconds: 0.03, most_queries: 20_000_000 };
-const QUICK: Effort = Effort { samples: 5, seconds: 0.005, most_queries: 500_000 };
+const FULL: Effort =
+    Effort { models: 10, large_models: 3, samples: 11, seconds: 0.05, most_queries: 20_000_000 };
+const QUICK: Effort =
+    Effort { models: 3, large_models: 1, samples: 5, seconds: 0.005, most_queries: 500_000 };
 
-/// The median times of one call, in seconds.
+/// The median times of one judgement, in seconds.
 struct Times {
     engine: f64,
     rust: f64,
@@ -39,45 +46,45 @@ fn median(mut times: Vec<f64>) -> f64 {
     times[times.len() / 2]
 }
 
-/// The answer of so many calls, and the seconds that one took.
-fn timed(calls: usize, judge: &dyn Fn() -> Answer) -> (Answer, f64) {
+/// The seconds that one judgement took, of so many calls for each of the models.
+fn timed(calls: usize, models: &[Subject], judge: &dyn Fn(&Subject) -> Answer) -> f64 {
     let start = Instant::now();
-    for _ in 1..calls {
-        black_box(judge());
+    for model in models {
+        for _ in 0..calls {
+            black_box(judge(model));
+        }
     }
-    let answer = judge();
-    (answer, start.elapsed().as_secs_f64() / calls as f64)
+    start.elapsed().as_secs_f64() / (calls * models.len()) as f64
 }
 
 /// Calls both in turn. What takes long is repeated less, but is called three times at the least.
-fn measure(effort: Effort, engine: &dyn Fn() -> Answer, rust: &dyn Fn() -> Answer) -> (Answer, Times) {
-    let (answer, engine_first) = timed(1, engine);
-    let (rust_answer, rust_first) = timed(1, rust);
-    assert_eq!(answer, rust_answer, "the engine and Rust judge differently");
-    let calls = (effort.seconds / engine_first).ceil() as usize;
+fn measure(
+    effort: Effort,
+    models: &[Subject],
+    engine: &dyn Fn(&Subject) -> Answer,
+    rust: &dyn Fn(&Subject) -> Answer,
+) -> Times {
+    let once = timed(1, models, engine) * models.len() as f64;
+    let calls = (effort.seconds / once).ceil() as usize;
+    let samples = match once {
+        s if s > 0.5 => 3,
+        s if s > 0.05 => 5,
+        _ => effort.samples,
+    };
     let (mut engine_times, mut rust_times) = (Vec::new(), Vec::new());
-    let mut samples = effort.samples;
-    if engine_first > 0.05 {
-        samples = 5;
-    }
-    if engine_first > 0.5 {
-        samples = 3;
-        engine_times.push(engine_first);
-        rust_times.push(rust_first);
-    }
     while engine_times.len() < samples {
         // The other one first every other time.
         if engine_times.len() % 2 == 0 {
-            engine_times.push(timed(calls, engine).1);
-            rust_times.push(timed(calls, rust).1);
+            engine_times.push(timed(calls, models, engine));
+            rust_times.push(timed(calls, models, rust));
         } else {
-            rust_times.push(timed(calls, rust).1);
-            engine_times.push(timed(calls, engine).1);
+            rust_times.push(timed(calls, models, rust));
+            engine_times.push(timed(calls, models, engine));
         }
     }
     // The ratio of neighbours in time: a machine that slows down in between slows both.
     let ratio = median(engine_times.iter().zip(&rust_times).map(|(engine, rust)| engine / rust).collect());
-    (answer, Times { engine: median(engine_times), rust: median(rust_times), ratio })
+    Times { engine: median(engine_times), rust: median(rust_times), ratio }
 }
 
 #[derive(Clone, Copy, Debug, PartialEq)]
@@ -101,7 +108,6 @@ impl Route {
 struct Subject {
     name: &'static str,
     lines: usize,
-    levels: usize,
     file: Vec<u8>,
     u: Vec<u8>,
     v: Vec<u8>,
@@ -117,14 +123,13 @@ fn largest_lent(n: usize, h: usize) -> Vec<u8> {
 
 impl Subject {
     fn new(name: &'static str, model: Model) -> Subject {
-        let (lines, levels) = (model.lines(), model.levels());
+        let lines = model.lines();
         let (least, greatest) = (model.least_levels(), model.greatest_levels());
         let leaves = |h| Tree::built_in(lines, h).leaf_count();
         let (u, v) = (largest_lent(lines, least), largest_lent(lines, greatest));
         Subject {
             name,
             lines,
-            levels,
             file: model.file(),
             built_queries: leaves(least) * leaves(greatest),
             lent_queries: ((u.len() + 1) * (v.len() + 1)) as u64,
@@ -134,26 +139,35 @@ impl Subject {
     }
 
     /// Alternating signs, level 1 least, and alternating kinds.
-    fn random(name: &'static str, lines: usize, levels: usize, density: Density) -> Subject {
-        let mut random = Random::new(7);
+    fn random(seed: u64, lines: usize, levels: usize, name: &'static str, density: Density) -> Subject {
+        let mut random = Random::new(seed);
         let all: Vec<bool> = (0..lines).map(|i| i % 2 == 1).collect();
         let signs = random::alternating(levels, false);
         Subject::new(name, random::model_of_kinds(&mut random, &all, &signs, density))
     }
 
     /// Two or three operands a line.
-    fn sparse(lines: usize, levels: usize) -> Subject {
-        Subject::random("sparse", lines, levels, Density::Several)
+    fn sparse(seed: u64, lines: usize, levels: usize) -> Subject {
+        Subject::random(seed, lines, levels, "sparse", Density::Several)
     }
 
     /// Half of all possible operands.
-    fn dense(lines: usize, levels: usize) -> Subject {
-        Subject::random("dense", lines, levels, Density::Share(50))
+    fn dense(seed: u64, lines: usize, levels: usize) -> Subject {
+        Subject::random(seed, lines, levels, "dense", Density::Share(50))
     }
 
     /// A model of the lower bound, where plain rounds are many.
-    fn hard(lines: usize, levels: usize) -> Subject {
-        Subject::new("hard", random::hard_model(&mut Random::new(7), lines, levels / 2))
+    fn hard(seed: u64, lines: usize, levels: usize) -> Subject {
+        Subject::new("hard", random::hard_model(&mut Random::new(seed), lines, levels / 2))
+    }
+
+    /// The most queries that judging may make.
+    fn most_queries(&self, route: Route) -> u64 {
+        match route {
+            Route::Built => self.built_queries,
+            Route::Lent => self.lent_queries,
+            Route::Plain => CEILING,
+        }
     }
 
     fn engine(&self, route: Route) -> Answer {
@@ -202,25 +216,36 @@ fn heading(title: &str) {
 }
 
 /// Measures one row and prints it, with the engine's time as a multiple of the row's before. Gives that time.
-fn row(effort: Effort, subject: &Subject, route: Route, before: Option<f64>) -> Option<f64> {
-    let most = match route {
-        Route::Built => subject.built_queries,
-        Route::Lent => subject.lent_queries,
-        Route::Plain => CEILING,
-    };
+fn row(
+    effort: Effort,
+    make: fn(u64, usize, usize) -> Subject,
+    (lines, levels): (usize, usize),
+    route: Route,
+    before: Option<f64>,
+) -> Option<f64> {
+    let first = make(1, lines, levels);
+    let most = first.most_queries(route);
     if most > effort.most_queries {
         return None;
     }
-    let (answer, times) = measure(effort, &|| subject.engine(route), &|| subject.rust(route));
-    // A plain run that was cut off has made as many queries as it may.
-    let queries = if answer.number == 10 { CEILING } else { answer.count };
-    let rate = |seconds: f64| queries as f64 / seconds / 1e6;
+    let count = if most > 1_000_000 { effort.large_models } else { effort.models };
+    let models: Vec<Subject> = (1..=count).map(|seed| make(seed, lines, levels)).collect();
+    let mut total = 0;
+    for model in &models {
+        let answer = model.engine(route);
+        assert_eq!(answer, model.rust(route), "the engine and Rust judge differently");
+        // A plain run that was cut off has made as many queries as it may.
+        total += if answer.number == 10 { CEILING } else { answer.count };
+    }
+    let times = measure(effort, &models, &|model| model.engine(route), &|model| model.rust(route));
+    let queries = total as f64 / models.len() as f64;
+    let rate = |seconds: f64| queries / seconds / 1e6;
     println!(
-        "{:5} {:5} {:6} {:6} {:9} {:>9} {:>9} {:6.2} {:6.2} {:6.2} {:>6}",
+        "{:5} {:5} {:6} {:6} {:9.0} {:>9} {:>9} {:6.2} {:6.2} {:6.2} {:>6}",
         route.name(),
-        subject.lines,
-        subject.levels,
-        subject.name,
+        lines,
+        levels,
+        first.name,
         queries,
         time(times.engine),
         time(times.rust),
@@ -288,8 +313,12 @@ fn run_on(who: &str, kib: &str) {
 }
 
 fn benchmark(effort: Effort) {
-    println!("Time of one judgement between empty and full, the engine's and Rust's, the median of");
-    println!("several calls in turn; millions of queries a second; ratio: median of engine's time / Rust's;");
+    let Effort { models, large_models, .. } = effort;
+    println!("Time of one judgement between empty and full, the engine's and Rust's: the mean over {models} random");
+    println!("models ({large_models} where one takes over a million queries), and of that the median of several times in");
+    println!(
+        "turn; the mean queries, and millions of them a second; ratio: median of engine's time / Rust's;"
+    );
     println!("growth: engine's time / the row's before. Signs and kinds alternate.");
 
     for (route, title) in [
@@ -299,10 +328,10 @@ fn benchmark(effort: Effort) {
     ] {
         heading(title);
         for levels in [2, 4, 6, 8] {
-            row(effort, &Subject::dense(64, levels), route, None);
-            row(effort, &Subject::sparse(64, levels), route, None);
+            row(effort, Subject::dense, (64, levels), route, None);
+            row(effort, Subject::sparse, (64, levels), route, None);
             if route == Route::Plain {
-                row(effort, &Subject::hard(64, levels), route, None);
+                row(effort, Subject::hard, (64, levels), route, None);
             }
         }
     }
@@ -311,7 +340,7 @@ fn benchmark(effort: Effort) {
     for route in [Route::Built, Route::Lent, Route::Plain] {
         let mut before = None;
         for lines in [8, 16, 32, 64] {
-            before = row(effort, &Subject::sparse(lines, 4), route, before);
+            before = row(effort, Subject::sparse, (lines, 4), route, before);
         }
     }
 
@@ -319,7 +348,7 @@ fn benchmark(effort: Effort) {
     for route in [Route::Built, Route::Lent, Route::Plain] {
         let mut before = None;
         for levels in 1..=8 {
-            before = row(effort, &Subject::sparse(16, levels), route, before);
+            before = row(effort, Subject::sparse, (16, levels), route, before);
         }
     }
 

@@ -82,11 +82,3 @@ sliceChecks m =
 unfoldable pub writeNumber : System → ℕ → ℕ
 writeNumber m room =
     firstOf (countChecks (m .lines) (m .levels) ++ (sliceChecks m ++ (contentChecks m ++ (12 if ltb room (fileLength (m .lines) (m .levels)) ∷ []))))
-
--- 13: not as many arguments as levels; 9: an argument with a line of n or more
-abbrev pub argumentChecks : List ℕ → List ℕ → List Check
-argumentChecks file xs = 13 if not (eqb (length xs) (levelsIn file)) ∷ 9 if some (strays (linesIn file)) xs ∷ []
-
--- the number with which one query refuses, or 0
-unfoldable pub queryNumber : List ℕ → List ℕ → ℕ
-queryNumber file xs = firstOf (fileChecks file ++ argumentChecks file xs)

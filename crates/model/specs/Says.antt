@@ -7,25 +7,19 @@ use lib.ListN.{length, drop}
 use Rattle.answers.specs.Answer.{Answer, refusal, numberOf}
 use Rattle.answers.specs.Check.{unless}
 use Rattle.model.specs.System.{System}
-use Rattle.model.specs.Query.{query}
 use Rattle.model.specs.File.{fileLength, linesIn, levelsIn, decode, encode}
-use Rattle.model.specs.Checks.{fileNumber, readNumber, writeNumber, queryNumber}
+use Rattle.model.specs.Checks.{fileNumber, readNumber, writeNumber}
 use Rattle.model.specs.declared.layout.Reading.{Reading}
 use Rattle.model.specs.declared.layout.Reading.the-variants as reading
 use Rattle.model.specs.declared.writer.Written.{Written}
 use Rattle.model.specs.declared.writer.Written.the-variants as written
-use Rattle.model.specs.declared.evaluator.Queried.{Queried}
-use Rattle.model.specs.declared.evaluator.Queried.the-variants as queried
 
--- accepted with the two counts, with a length, with a set
+-- accepted with the two counts, with a length
 abbrev pub sized : ℕ → ℕ → Answer
 sized n d = record { number = 0; set = 0; count = 0; length = 0; lines = n; levels = d }
 
 abbrev pub made : ℕ → Answer
 made bytes = record { number = 0; set = 0; count = 0; length = bytes; lines = 0; levels = 0 }
-
-abbrev pub valued : ℕ → Answer
-valued set = record { number = 0; set = set; count = 0; length = 0; lines = 0; levels = 0 }
 
 -- the paper's answer of each case of the enums
 abbrev pub readingAnswer : Reading → Answer
@@ -35,10 +29,6 @@ readingAnswer (reading.Refused e) = refusal (numberOf e)
 abbrev pub writtenAnswer : Written → Answer
 writtenAnswer (written.Length bytes) = made bytes
 writtenAnswer (written.Refused e) = refusal (numberOf e)
-
-abbrev pub queriedAnswer : Queried → Answer
-queriedAnswer (queried.Set set) = valued set
-queriedAnswer (queried.Refused e) = refusal (numberOf e)
 
 -- what a lent list is left with: what was made in front of the entries beyond it, or on refusal the list as it was
 abbrev pub filled : ℕ → List ℕ → List ℕ → List ℕ
@@ -66,7 +56,3 @@ writeAnswer m room = unless (writeNumber m room) (made (fileLength (m .lines) (m
 pub record WriteSays (m : System) (buffer : List ℕ) (r : Written) (buffer′ : List ℕ) : Type 0 where
   pub answer : writtenAnswer r ≡ writeAnswer m (length buffer)
   pub buffer-left : buffer′ ≡ filled (writeNumber m (length buffer)) (encode m) buffer
-
--- one query of a file at the arguments xs
-abbrev pub queryAnswer : List ℕ → List ℕ → Answer
-queryAnswer file xs = unless (queryNumber file xs) (valued (query (decode file) xs))

@@ -1,22 +1,11 @@
-// One query of a model.
+// The set of one query of a model.
 ghost use mathlib.Core.Path.{_≡_};
 ghost use Prim.Native.Nat.{_+_, _*_, _≤_, _<_};
 ghost use lib.ListN.{length, take, drop};
 ghost use Rattle.model.specs.Query as spec;
 ghost use Rattle.model.specs.File.{fileLength, wordsFrom, sections};
-ghost use Rattle.model.specs.Says.{queriedAnswer, queryAnswer};
-use super::checker::check;
 use super::layout::Model;
-use super::layout::Reading;
 use super::number::u64_at;
-use super::writer::one_strays;
-use answers::Refusal;
-
-// What one query answers.
-pub enum Queried {
-    Set(u64),
-    Refused(Refusal),
-}
 
 // The "or" of the operands that the d words from an offset on select. The first word with a set operand decides.
 fn any_operand(file: &[u8], at: usize, d: usize, xs: &[u64]) -> bool
@@ -85,22 +74,4 @@ pub fn evaluate(file: &[u8], m: Model, xs: &[u64]) -> u64
         i += 1;
     }
     set
-}
-
-// The set that one query of a file gives at the arguments xs, level 1 first.
-pub fn query(file: &[u8], xs: &[u64]) -> Queried
-    ensures { λ r. ⌜ queriedAnswer r ≡ queryAnswer (now (file .entry)) (now (xs .entry)) ⌝ }
-{
-    let counts = check(file);
-    let m = match counts {
-        Reading::Accepted(m) => m,
-        Reading::Refused(e) => return Queried::Refused(e),
-    };
-    if xs.len() != m.levels {
-        return Queried::Refused(Refusal::SliceLength);
-    }
-    if one_strays(xs, m.lines) {
-        return Queried::Refused(Refusal::Bounds);
-    }
-    Queried::Set(evaluate(file, m, xs))
 }

@@ -1,4 +1,4 @@
-// A model and its file: checking, reading, writing, and one query. Definitions: specs/.
+// A model and its file: checking, reading, writing, and the set of one query. Definitions: specs/.
 mod checker;
 mod evaluator;
 mod layout;
@@ -7,11 +7,10 @@ mod reader;
 mod writer;
 
 pub use checker::check;
-pub use evaluator::Queried;
 pub use evaluator::evaluate;
-pub use evaluator::query;
 pub use layout::Model;
 pub use layout::Reading;
 pub use reader::read;
 pub use writer::Written;
+pub use writer::one_strays;
 pub use writer::write;

@@ -21,7 +21,7 @@ pub enum Written {
 }
 
 // Whether one of the sets has a line of n or more.
-pub(crate) fn one_strays(words: &[u64], n: usize) -> bool
+pub fn one_strays(words: &[u64], n: usize) -> bool
     requires { ⌜ n ≤ 64 ⌝ }
     ensures { λ r. ⌜ r ≡ some (strays n) (now (words .entry)) ⌝ }
 {

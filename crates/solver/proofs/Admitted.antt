@@ -3,7 +3,7 @@
 use mathlib.Core.Bool.{false, not, _||_}
 use mathlib.Mathlib.Data.Bool.Basic.{or-eq-false-eq-eq-false-and-eq-false as neither}
 use mathlib.Core.List.{List, [], _∷_, _++_}
-use mathlib.Core.Path.{_≡_, refl, sym, _∙_, ap, subst}
+use mathlib.Core.Path.{_≡_, refl, sym, _∙_, ap, ap₂, subst}
 use Prim.Native.Nat.{ℕ, _≤_}
 use native.Mathlib.Omega.{arith}
 use borrow.Author.Tests.{not-false}
@@ -26,14 +26,15 @@ use Rattle.model.specs.declared.layout.Reading.{Reading}
 use Rattle.model.specs.declared.layout.Reading.the-variants as reading
 use Rattle.model.proofs.Refusals.{AcceptedAs, RefusedAs, accepted-as, refused-as}
 use Rattle.model.proofs.Accepted.{accepted, decoded, limits, room}
-use Rattle.routes.specs.Parts.{Held, Sized, systemIn}
+use Rattle.routes.specs.Parts.{Held, systemIn}
+use Rattle.view.specs.View.{InUse}
 use Rattle.solver.specs.Checks.{misplaced, boundChecks, builtNumber}
 
 pub record Admitted (file : List ℕ) (a b : ℕ) (m : Model) : Type 0 where
   pub number : builtNumber file a b ≡ 0
   pub counts : AcceptedAs (builtNumber file a b) (linesIn file) (levelsIn file) m
+  pub in-use : InUse file (m .lines) (m .levels)
   pub held : Held file m
-  pub sized-lines : Sized (m .lines)
   pub system : systemIn file m ≡ decode file
   pub some-line : 1 ≤ decode file .lines
   pub range : Range (sets (decode file .lines)) a b
@@ -66,8 +67,8 @@ module _ (file : List ℕ) (a b : ℕ) where
         record {
           number = counts .number;
           counts = counts;
+          in-use = rw none (sym (ap₂ sized (counts .lines) (counts .levels)));
           held = record { few-lines = limits (whole .header) counts .0; few-levels = limits (whole .header) counts .1; whole = room (whole .header) counts };
-          sized-lines = (omega (arith, counts .lines, whole .header .lines-least), limits (whole .header) counts .0);
           system = decoded file counts;
           some-line = whole .header .lines-least;
           range = in-range (linesIn file) a b (both .1 .0);

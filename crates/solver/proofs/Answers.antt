@@ -3,13 +3,12 @@
 -- Assumes nothing.
 use mathlib.Core.Bool.{Bool, true, false, cond, true≢false, _||_}
 use mathlib.Core.List.{List, [], _∷_, _++_}
-use mathlib.Core.Path.{_≡_, refl, sym, _∙_, ap, ap₂}
+use mathlib.Core.Path.{_≡_, refl, sym, _∙_, ap₂}
 use Prim.Native.Nat.{ℕ, _-_, _≤_, _<_}
 use native.Mathlib.Omega.{arith}
 use mathlib.Mathlib.Data.Bool.Basic.{or-eq-false-eq-eq-false-and-eq-false as neither}
 use borrow.Author.Tests.{le-ltb, lt-ltb, ltb-false}
 use lib.Dec.{ltb}
-use Rattle.answers.specs.Answer.{Answer}
 use lib.ListN.{length}
 use Rattle.answers.specs.Check.{Check, _if_, firstOf, outside}
 use Rattle.answers.specs.declared.Refusal.{Refusal}
@@ -17,19 +16,17 @@ use Rattle.answers.specs.declared.Refusal.the-variants.{Ceiling, Tree}
 use Rattle.answers.proofs.Checks.{first-before, inside}
 use Rattle.fixpoint.specs.Plain.{Run}
 use Rattle.trees.specs.Tree.{IsTree, leaf, gap}
-use Rattle.model.specs.System.{System}
 use Rattle.model.specs.File.{decode}
 use Rattle.model.specs.Checks.{some}
 use Rattle.model.specs.declared.layout.Model.{Model}
 use Rattle.model.proofs.Refusals.{RefusedAs}
-use Rattle.routes.specs.Parts.{systemIn, under, Lent}
-use Rattle.routes.specs.Routes.{leastLevels, greatestLevels, builtLeast, builtGreatest, plainRun, restrictedSet, restrictedCount}
+use Rattle.routes.specs.Parts.{under, Lent}
+use Rattle.routes.specs.Routes.{leastLevels, greatestLevels, plainRun}
 use Rattle.routes.specs.declared.step.Found.{Found}
-use Rattle.routes.specs.declared.plain_route.Outcome.{Outcome}
 use Rattle.routes.specs.declared.plain_route.Outcome.the-variants as outcome
 use Rattle.routes.proofs.Promises.{plain-is-nested, built-product, built-nested, lent-product, lent-nested}
 use Rattle.routes.proofs.Rounds.{Fits, settled-fits, spent-exceeds}
-use Rattle.view.specs.View.{PlainIs, BuiltIs, LentIs}
+use Rattle.view.specs.View.{BuiltIs, LentIs}
 use Rattle.solver.specs.Checks.{badTree, boundChecks, builtNumber, plainNumber, treeChecks, lentNumber}
 use Rattle.solver.specs.Says.{judged, PlainSays, BuiltSays, LentSays}
 use Rattle.solver.specs.declared.Judged.the-variants as judgement
@@ -63,10 +60,6 @@ module _ (file : List ℕ) (a b : ℕ) where
     unfolding plainNumber
     plain-refused h = record { answer = sym (handed-on file a b ceilingChecks _ h); nested = λ z. absurd (still-refused ceilingChecks h z) }
 
-    -- what the plain evaluator gives, for the file's own system
-    pub plain-outcome : {m : Model} (r : Outcome) → Admitted file a b m → PlainIs (systemIn file m) a b ceiling r → PlainIs (decode file) a b ceiling r
-    plain-outcome r ad h = h ∙ ap (λ (s : System). under ceiling (plainRun s a b)) (ad .system)
-
     pub plain-spent : {m : Model} → Admitted file a b m → under ceiling (plainRun (decode file) a b) ≡ outcome.Spent → PlainSays file a b ceiling (judgement.Refused Ceiling)
     unfolding plainNumber
     plain-spent ad e =
@@ -93,14 +86,12 @@ module _ (file : List ℕ) (a b : ℕ) where
       let never : builtNumber file a b ≡ 0 → ⊥ = λ z. let p : 0 < builtNumber file a b = h .positive in omega arith in
       record { answer = sym (handed-on-bounds file a b _ h); product = λ z. absurd (never z); nested = λ z. absurd (never z) }
 
-  pub built-found : {m : Model} (r : Found) → Admitted file a b m → BuiltIs (systemIn file m) a b r → BuiltSays file a b (judgement.Found (r .set) (r .count))
+  pub built-found : {m : Model} (r : Found) → Admitted file a b m → BuiltIs (decode file) a b r → BuiltSays file a b (judgement.Found (r .set) (r .count))
   built-found r ad g =
-      let over : System → Answer = λ s. judged (restrictedSet s a b (builtLeast s (s .lines)) (builtGreatest s (s .lines))) (restrictedCount s (builtLeast s (s .lines)) (builtGreatest s (s .lines))) in
-      let same : judged (r .set) (r .count) ≡ over (decode file) = ap₂ judged (g .value) (g .queries) ∙ ap over (ad .system) in
       record {
-        answer = rw (ad .number) same;
-        product = λ z. ap (λ (x : Answer). x .count) same ∙ built-product (decode file) (decode file .lines) (decode file .lines) (ad .some-line) (ad .some-line);
-        nested = λ z. ap (λ (x : Answer). x .set) same ∙ built-nested (decode file) a b (ad .range) (ad .some-line);
+        answer = rw (ad .number) (ap₂ judged (g .value) (g .queries));
+        product = λ z. g .queries ∙ built-product (decode file) (decode file .lines) (decode file .lines) (ad .some-line) (ad .some-line);
+        nested = λ z. g .value ∙ built-nested (decode file) a b (ad .range) (ad .some-line);
       }
 
   -- judging by lent trees
@@ -125,14 +116,12 @@ module _ (file : List ℕ) (a b : ℕ) where
         either false false e = absurd (true≢false (sym e))
 
     pub lent-found : {m : Model} (r : Found) → Admitted file a b m → badTree (leastLevels (decode file)) u ≡ false → badTree (greatestLevels (decode file)) v ≡ false
-        → LentIs (systemIn file m) a b u v r → LentSays file a b u v (judgement.Found (r .set) (r .count))
+        → LentIs (decode file) a b u v r → LentSays file a b u v (judgement.Found (r .set) (r .count))
     unfolding lentNumber
     lent-found r ad hp hq g =
-        let over : System → Answer = λ s. judged (restrictedSet s a b u v) (restrictedCount s u v) in
         let zero-number : lentNumber file a b u v ≡ 0 = after-bounds file a b (treeChecks file u v) (ad .number) ∙ rw (hp, hq) in
-        let same : judged (r .set) (r .count) ≡ over (decode file) = ap₂ judged (g .value) (g .queries) ∙ ap over (ad .system) in
         record {
-          answer = rw zero-number same;
-          product = λ z. ap (λ (x : Answer). x .count) same ∙ lent-product (decode file) u v (good-tree (leastLevels (decode file)) u hp .tree) (good-tree (greatestLevels (decode file)) v hq .tree);
-          nested = λ z pu pv. ap (λ (x : Answer). x .set) same ∙ lent-nested (decode file) a b (ad .range) u v pu pv;
+          answer = rw zero-number (ap₂ judged (g .value) (g .queries));
+          product = λ z. g .queries ∙ lent-product (decode file) u v (good-tree (leastLevels (decode file)) u hp .tree) (good-tree (greatestLevels (decode file)) v hq .tree);
+          nested = λ z pu pv. g .value ∙ lent-nested (decode file) a b (ad .range) u v pu pv;
         }

@@ -1,15 +1,23 @@
--- What judging turns down, in document 01's order.
+-- What one query and each judging turn down, in document 01's order.
 -- Assumes nothing.
 use mathlib.Core.Bool.{Bool, not, _||_}
 use mathlib.Core.List.{List, [], _∷_, _++_}
 use Prim.Native.Nat.{ℕ}
-use lib.Dec.{ltb}
+use lib.Dec.{eqb, ltb}
 use lib.ListN.{length}
 use Rattle.answers.specs.Check.{Check, _if_, firstOf, outside}
 use Rattle.sets.specs.Set.{isWithin}
-use Rattle.model.specs.File.{linesIn, decode}
+use Rattle.model.specs.File.{linesIn, levelsIn, decode}
 use Rattle.model.specs.Checks.{some, strays, fileChecks}
 use Rattle.routes.specs.Routes.{leastLevels, greatestLevels, plainRun}
+
+-- 13: not as many arguments as levels; 9: an argument with a line of n or more
+abbrev pub argumentChecks : List ℕ → List ℕ → List Check
+argumentChecks file xs = 13 if not (eqb (length xs) (levelsIn file)) ∷ 9 if some (strays (linesIn file)) xs ∷ []
+
+-- the number with which one query refuses, or 0
+unfoldable pub queryNumber : List ℕ → List ℕ → ℕ
+queryNumber file xs = firstOf (fileChecks file ++ argumentChecks file xs)
 
 -- bounds of which one has a line of n or more, or the lower is not within the upper
 abbrev pub misplaced : ℕ → ℕ → ℕ → Bool

@@ -1,4 +1,4 @@
--- What judging answers, and what is promised of the answer besides (document 01, "Operations" and "Fixing a judgement").
+-- What one query and each judging answer, and what is promised of a judgement besides (document 01, "Operations" and "Fixing a judgement").
 -- Assumes nothing.
 use mathlib.Core.List.{List}
 use mathlib.Core.Path.{_≡_}
@@ -9,21 +9,35 @@ use Rattle.trees.specs.Tree.{leaves}
 use Rattle.trees.specs.Fit.{Universal}
 use Rattle.trees.specs.Built.{leafCount}
 use Rattle.model.specs.File.{decode}
+use Rattle.model.specs.Query.{query}
 use Rattle.model.specs.declared.layout.Reading.{Reading}
 use Rattle.model.specs.declared.layout.Reading.the-variants as reading
 use Rattle.routes.specs.Routes.{leastLevels, greatestLevels, builtLeast, builtGreatest, nestedSet, plainRun, restrictedSet, restrictedCount}
-use Rattle.solver.specs.Checks.{builtNumber, plainNumber, lentNumber}
+use Rattle.solver.specs.Checks.{queryNumber, builtNumber, plainNumber, lentNumber}
 use Rattle.solver.specs.declared.Judged.{Judged}
 use Rattle.solver.specs.declared.Judged.the-variants.{Found, Refused}
+use Rattle.solver.specs.declared.Queried.{Queried}
+use Rattle.solver.specs.declared.Queried.the-variants as queried
 
--- accepted with a set and a count
+-- accepted with a set, and with a count too
+abbrev pub valued : ℕ → Answer
+valued set = record { number = 0; set = set; count = 0; length = 0; lines = 0; levels = 0 }
+
 abbrev pub judged : ℕ → ℕ → Answer
 judged set count = record { number = 0; set = set; count = count; length = 0; lines = 0; levels = 0 }
 
--- the paper's answer of each case of the enum
+-- the paper's answer of each case of the enums
+abbrev pub queriedAnswer : Queried → Answer
+queriedAnswer (queried.Set set) = valued set
+queriedAnswer (queried.Refused e) = refusal (numberOf e)
+
 abbrev pub judgedAnswer : Judged → Answer
 judgedAnswer (Found set count) = judged set count
 judgedAnswer (Refused e) = refusal (numberOf e)
+
+-- one query of a file at the arguments xs, level 1 first
+abbrev pub queryAnswer : List ℕ → List ℕ → Answer
+queryAnswer file xs = unless (queryNumber file xs) (valued (query (decode file) xs))
 
 -- the refusal of a reading, handed on
 abbrev pub handedOn : Reading → Judged

@@ -1,5 +1,5 @@
-// The public operations that judge a model. Each takes all inputs, ends, and answers a set with its count or one refusal
-// by document 01's order. Definitions: specs/.
+// The public operations on a model in use: one query, and each of the three judgings. Each takes all inputs, ends, and answers a set,
+// judging with a count, or one refusal by document 01's order. Definitions: specs/.
 ghost use mathlib.Core.Path.{_≡_};
 ghost use Prim.Native.Nat.{_≤_};
 ghost use Rattle.answers.specs.Check.{unless};
@@ -8,11 +8,35 @@ ghost use Rattle.model.specs.Says.{readingAnswer, sized};
 ghost use Rattle.routes.specs.Parts.{Held, systemIn};
 ghost use Rattle.routes.specs.Routes.{leastLevels};
 ghost use Rattle.solver.specs.Checks.{misplaced, badTree, builtNumber};
-ghost use Rattle.solver.specs.Says.{handedOn, PlainSays, BuiltSays, LentSays};
+ghost use Rattle.solver.specs.Says.{queriedAnswer, queryAnswer, handedOn, PlainSays, BuiltSays, LentSays};
 use answers::Refusal;
 use model::Model;
 use model::Reading;
 use routes::Outcome;
+
+// What one query answers.
+pub enum Queried {
+    Set(u64),
+    Refused(Refusal),
+}
+
+// The set that one query of a file gives at the arguments xs, level 1 first.
+pub fn query(file: &[u8], xs: &[u64]) -> Queried
+    ensures { λ r. ⌜ queriedAnswer r ≡ queryAnswer (now (file .entry)) (now (xs .entry)) ⌝ }
+{
+    let counts = model::check(file);
+    let m = match counts {
+        Reading::Accepted(m) => m,
+        Reading::Refused(e) => return Queried::Refused(e),
+    };
+    if xs.len() != m.levels {
+        return Queried::Refused(Refusal::SliceLength);
+    }
+    if model::one_strays(xs, m.lines) {
+        return Queried::Refused(Refusal::Bounds);
+    }
+    Queried::Set(view::query_of(file, m.lines, m.levels, xs))
+}
 
 // What judging answers.
 pub enum Judged {

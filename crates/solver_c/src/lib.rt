@@ -6,14 +6,14 @@ ghost use Rattle.trees.specs.Count.{answerOf, leafCountAnswer};
 ghost use Rattle.model.specs.System.{systemOf};
 ghost use Rattle.model.specs.File.{decode, encode};
 ghost use Rattle.model.specs.Checks.{readNumber, writeNumber};
-ghost use Rattle.model.specs.Says.{filled, readingAnswer, writtenAnswer, queriedAnswer, readAnswer, writeAnswer, queryAnswer};
-ghost use Rattle.solver.specs.Says.{judgedAnswer, plainAnswer, builtAnswer, lentAnswer};
+ghost use Rattle.model.specs.Says.{filled, readingAnswer, writtenAnswer, readAnswer, writeAnswer};
+ghost use Rattle.solver.specs.Says.{queriedAnswer, judgedAnswer, queryAnswer, plainAnswer, builtAnswer, lentAnswer};
 ghost use Rattle.solver_c.specs.Words.{sixWords};
 use answers::Refusal;
-use model::Queried;
 use model::Reading;
 use model::Written;
 use solver::Judged;
+use solver::Queried;
 use trees::LeafCount;
 
 fn put_refused(answer: &mut [u64; 6], e: Refusal)
@@ -116,7 +116,7 @@ pub extern "C" fn solver_write(
 pub extern "C" fn solver_query(file: &[u8], arguments: &[u64], answer: &mut [u64; 6])
     ensures { λ _. ⌜ now (answer .exit) ≡ sixWords (queryAnswer (now (file .entry)) (now (arguments .entry))) ⌝ }
 {
-    put_queried(answer, model::query(file, arguments));
+    put_queried(answer, solver::query(file, arguments));
 }
 
 #[no_mangle]

@@ -3,7 +3,7 @@
 use mathlib.Core.Bool.{cond}
 use mathlib.Core.List.{List, [], _∷_, _++_}
 use mathlib.Core.Path.{_≡_}
-use Prim.Native.Nat.{ℕ, zero, suc, _+_, _*_, _/_, _%_}
+use Prim.Native.Nat.{ℕ, zero, suc, _+_, _*_, _/_, _%_, _≤_, _<_}
 use lib.Dec.{ltb}
 use lib.ListN.{length, take, drop}
 
@@ -32,6 +32,11 @@ decimal x = digits 10 (places 19 x) x
 -- 1000 times good over n, rounded to a whole number, a half upwards; of no lines, 0, as division by 0 has it
 abbrev pub shareOf : ℕ → ℕ → ℕ
 shareOf good n = (2000 * good + n) / (2 * n)
+
+-- what rounding means: r - 1/2 ≤ 1000 good / n < r + 1/2, all of it times 2 n
+pub record Nearest (good n r : ℕ) : Type 0 where
+  pub no-more : r * (2 * n) ≤ 2000 * good + n
+  pub no-less : 2000 * good < r * (2 * n) + n
 
 -- a list with a text put into it at a place
 abbrev pub pasted : ℕ → List ℕ → List ℕ → List ℕ

@@ -1,26 +1,18 @@
--- A model in use (document 01): a lent file with its two counts beside it, and what the three judgings of it give.
+-- A model in use: a lent file with the two counts that checking gives beside it, and what the three judgings of it give.
 -- Assumes nothing.
 use mathlib.Core.List.{List}
 use mathlib.Core.Path.{_≡_}
 use Prim.Native.Nat.{ℕ}
-use Rattle.model.specs.declared.layout.Model.{Model}
 use Rattle.model.specs.System.{System}
-use Rattle.routes.specs.Parts.{Held, Lent, Gives, under, systemIn}
+use Rattle.model.specs.Says.{checkAnswer, sized}
+use Rattle.routes.specs.Parts.{Lent, Gives, under}
 use Rattle.routes.specs.Routes.{leastLevels, greatestLevels, builtLeast, builtGreatest, plainRun, restrictedSet, restrictedCount}
 use Rattle.routes.specs.declared.step.Found.{Found}
 use Rattle.routes.specs.declared.plain_route.Outcome.{Outcome}
 
--- the two counts as a value of the model's type
-abbrev pub countsOf : ℕ → ℕ → Model
-countsOf n d = record { lines = n; levels = d }
-
--- the system of a file with n lines and d levels
-abbrev pub systemAt : List ℕ → ℕ → ℕ → System
-systemAt file n d = systemIn file (countsOf n d)
-
--- the file is as long as its counts say
+-- a model in use (document 01): checking accepts the file, with these two counts
 abbrev pub InUse : List ℕ → ℕ → ℕ → Type 0
-InUse file n d = Held file (countsOf n d)
+InUse file n d = checkAnswer file ≡ sized n d
 
 -- the outcome of the plain route under a ceiling
 abbrev pub PlainIs : System → ℕ → ℕ → ℕ → Outcome → Type 0

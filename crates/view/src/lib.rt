@@ -1,13 +1,12 @@
 // A model in use: a lent file with its two counts beside it. The functions over the struct are few and thin: each takes it apart
 // and calls the function on the slice and the numbers. Above them stand functions with plain parameters, so no caller has a struct.
 ghost use mathlib.Core.Path.{_≡_};
-ghost use Prim.Native.Nat.{_≤_};
-ghost use lib.ListN.{length, take};
+ghost use lib.ListN.{length};
 ghost use Rattle.fixpoint.specs.Lawful.{Range};
 ghost use Rattle.fixpoint.specs.Sets.{sets};
+ghost use Rattle.model.specs.File.{linesIn, levelsIn, decode};
 ghost use Rattle.model.specs.Query.{query as querySet};
-ghost use Rattle.routes.specs.Parts.{Sized};
-ghost use Rattle.view.specs.View.{systemAt, InUse, Fitting, PlainIs, BuiltIs, LentIs};
+ghost use Rattle.view.specs.View.{InUse, Fitting, PlainIs, BuiltIs, LentIs};
 use model::Model;
 use routes::Found;
 use routes::Outcome;
@@ -18,10 +17,10 @@ pub struct View<'a> {
     pub levels: usize,
 }
 
-// The work: one query at the arguments in the first places of xs.
+// The work: one query, at as many arguments as the file has levels.
 fn query_at(file: &[u8], lines: usize, levels: usize, xs: &[u64]) -> u64
-    requires { ⌜ InUse (now file) lines levels × (levels ≤ length (now xs)) ⌝ }
-    ensures { λ r. ⌜ r ≡ querySet (systemAt (now (file .entry)) lines levels) (take levels (now (xs .entry))) ⌝ }
+    requires { ⌜ InUse (now file) lines levels × (length (now xs) ≡ levels) ⌝ }
+    ensures { λ r. ⌜ r ≡ querySet (decode (now (file .entry))) (now (xs .entry)) ⌝ }
 {
     model::evaluate(file, Model { lines, levels }, xs)
 }
@@ -29,7 +28,7 @@ fn query_at(file: &[u8], lines: usize, levels: usize, xs: &[u64]) -> u64
 // The work: the plain rounds, with at most `ceiling` queries.
 fn plain_at(file: &[u8], lines: usize, levels: usize, a: u64, b: u64, ceiling: u64) -> Outcome
     requires { ⌜ InUse (now file) lines levels × Range (sets lines) a b ⌝ }
-    ensures { λ r. ⌜ PlainIs (systemAt (now (file .entry)) lines levels) a b ceiling r ⌝ }
+    ensures { λ r. ⌜ PlainIs (decode (now (file .entry))) a b ceiling r ⌝ }
 {
     let m = Model { lines, levels };
     let xs = [0u64; 8];
@@ -38,8 +37,8 @@ fn plain_at(file: &[u8], lines: usize, levels: usize, a: u64, b: u64, ceiling: u
 
 // The work: the restricted set over the built-in trees for the file's lines.
 fn built_at(file: &[u8], lines: usize, levels: usize, a: u64, b: u64) -> Found
-    requires { ⌜ InUse (now file) lines levels × Sized lines ⌝ }
-    ensures { λ r. ⌜ BuiltIs (systemAt (now (file .entry)) lines levels) a b r ⌝ }
+    requires { ⌜ InUse (now file) lines levels ⌝ }
+    ensures { λ r. ⌜ BuiltIs (decode (now (file .entry))) a b r ⌝ }
 {
     let m = Model { lines, levels };
     let xs = [0u64; 8];
@@ -58,8 +57,8 @@ fn lent_at(
     hv: usize,
     v: &[u8],
 ) -> Found
-    requires { ⌜ InUse (now file) lines levels × Fitting (systemAt (now file) lines levels) hu (now u) hv (now v) ⌝ }
-    ensures { λ r. ⌜ LentIs (systemAt (now (file .entry)) lines levels) a b (now (u .entry)) (now (v .entry)) r ⌝ }
+    requires { ⌜ InUse (now file) lines levels × Fitting (decode (now file)) hu (now u) hv (now v) ⌝ }
+    ensures { λ r. ⌜ LentIs (decode (now (file .entry))) a b (now (u .entry)) (now (v .entry)) r ⌝ }
 {
     let m = Model { lines, levels };
     let xs = [0u64; 8];
@@ -68,7 +67,8 @@ fn lent_at(
 
 // A view of a file, made with the counts that checking gave.
 pub fn new<'a>(file: &'a [u8], lines: usize, levels: usize) -> View<'a>
-    ensures { λ r. ⌜ (r .file ≡ file .entry) × ((r .lines ≡ lines) × (r .levels ≡ levels)) ⌝ }
+    requires { ⌜ InUse (now file) lines levels ⌝ }
+    ensures { λ r. ⌜ (r .file ≡ file .entry) × ((r .lines ≡ linesIn (now (file .entry))) × (r .levels ≡ levelsIn (now (file .entry)))) ⌝ }
 {
     View {
         file,
@@ -90,51 +90,51 @@ pub fn levels<'a>(w: View<'a>) -> usize
 }
 
 pub fn query<'a>(w: View<'a>, xs: &[u64]) -> u64
-    requires { ⌜ InUse (now (w .file)) (w .lines) (w .levels) × (w .levels ≤ length (now xs)) ⌝ }
-    ensures { λ r. ⌜ r ≡ querySet (systemAt (now (w .entry .file)) (w .entry .lines) (w .entry .levels)) (take (w .entry .levels) (now (xs .entry))) ⌝ }
+    requires { ⌜ InUse (now (w .file)) (w .lines) (w .levels) × (length (now xs) ≡ w .levels) ⌝ }
+    ensures { λ r. ⌜ r ≡ querySet (decode (now (w .entry .file))) (now (xs .entry)) ⌝ }
 {
     query_at(w.file, w.lines, w.levels, xs)
 }
 
 pub fn plain<'a>(w: View<'a>, a: u64, b: u64, ceiling: u64) -> Outcome
     requires { ⌜ InUse (now (w .file)) (w .lines) (w .levels) × Range (sets (w .lines)) a b ⌝ }
-    ensures { λ r. ⌜ PlainIs (systemAt (now (w .entry .file)) (w .entry .lines) (w .entry .levels)) a b ceiling r ⌝ }
+    ensures { λ r. ⌜ PlainIs (decode (now (w .entry .file))) a b ceiling r ⌝ }
 {
     plain_at(w.file, w.lines, w.levels, a, b, ceiling)
 }
 
 pub fn built<'a>(w: View<'a>, a: u64, b: u64) -> Found
-    requires { ⌜ InUse (now (w .file)) (w .lines) (w .levels) × Sized (w .lines) ⌝ }
-    ensures { λ r. ⌜ BuiltIs (systemAt (now (w .entry .file)) (w .entry .lines) (w .entry .levels)) a b r ⌝ }
+    requires { ⌜ InUse (now (w .file)) (w .lines) (w .levels) ⌝ }
+    ensures { λ r. ⌜ BuiltIs (decode (now (w .entry .file))) a b r ⌝ }
 {
     built_at(w.file, w.lines, w.levels, a, b)
 }
 
 pub fn lent<'a>(w: View<'a>, a: u64, b: u64, hu: usize, u: &[u8], hv: usize, v: &[u8]) -> Found
-    requires { ⌜ InUse (now (w .file)) (w .lines) (w .levels) × Fitting (systemAt (now (w .file)) (w .lines) (w .levels)) hu (now u) hv (now v) ⌝ }
-    ensures { λ r. ⌜ LentIs (systemAt (now (w .entry .file)) (w .entry .lines) (w .entry .levels)) a b (now (u .entry)) (now (v .entry)) r ⌝ }
+    requires { ⌜ InUse (now (w .file)) (w .lines) (w .levels) × Fitting (decode (now (w .file))) hu (now u) hv (now v) ⌝ }
+    ensures { λ r. ⌜ LentIs (decode (now (w .entry .file))) a b (now (u .entry)) (now (v .entry)) r ⌝ }
 {
     lent_at(w.file, w.lines, w.levels, a, b, hu, u, hv, v)
 }
 
 // The same four with plain parameters: a view is made and used.
 pub fn query_of(file: &[u8], lines: usize, levels: usize, xs: &[u64]) -> u64
-    requires { ⌜ InUse (now file) lines levels × (levels ≤ length (now xs)) ⌝ }
-    ensures { λ r. ⌜ r ≡ querySet (systemAt (now (file .entry)) lines levels) (take levels (now (xs .entry))) ⌝ }
+    requires { ⌜ InUse (now file) lines levels × (length (now xs) ≡ levels) ⌝ }
+    ensures { λ r. ⌜ r ≡ querySet (decode (now (file .entry))) (now (xs .entry)) ⌝ }
 {
     query(new(file, lines, levels), xs)
 }
 
 pub fn plain_of(file: &[u8], lines: usize, levels: usize, a: u64, b: u64, ceiling: u64) -> Outcome
     requires { ⌜ InUse (now file) lines levels × Range (sets lines) a b ⌝ }
-    ensures { λ r. ⌜ PlainIs (systemAt (now (file .entry)) lines levels) a b ceiling r ⌝ }
+    ensures { λ r. ⌜ PlainIs (decode (now (file .entry))) a b ceiling r ⌝ }
 {
     plain(new(file, lines, levels), a, b, ceiling)
 }
 
 pub fn built_of(file: &[u8], lines: usize, levels: usize, a: u64, b: u64) -> Found
-    requires { ⌜ InUse (now file) lines levels × Sized lines ⌝ }
-    ensures { λ r. ⌜ BuiltIs (systemAt (now (file .entry)) lines levels) a b r ⌝ }
+    requires { ⌜ InUse (now file) lines levels ⌝ }
+    ensures { λ r. ⌜ BuiltIs (decode (now (file .entry))) a b r ⌝ }
 {
     built(new(file, lines, levels), a, b)
 }
@@ -150,8 +150,8 @@ pub fn lent_of(
     hv: usize,
     v: &[u8],
 ) -> Found
-    requires { ⌜ InUse (now file) lines levels × Fitting (systemAt (now file) lines levels) hu (now u) hv (now v) ⌝ }
-    ensures { λ r. ⌜ LentIs (systemAt (now (file .entry)) lines levels) a b (now (u .entry)) (now (v .entry)) r ⌝ }
+    requires { ⌜ InUse (now file) lines levels × Fitting (decode (now file)) hu (now u) hv (now v) ⌝ }
+    ensures { λ r. ⌜ LentIs (decode (now (file .entry))) a b (now (u .entry)) (now (v .entry)) r ⌝ }
 {
     lent(new(file, lines, levels), a, b, hu, u, hv, v)
 }

@@ -36,7 +36,7 @@ returns c =
     (built-refused _ _ _ (turned-down _ _ _ (c .before .before .before .admit .ensures) told))
 
 built-of-requires : tie.Need-built-of-requires
-built-of-requires c κs = (known c .held, known c .sized-lines)
+built-of-requires c κs = known c .in-use
 
 returns-2 : tie.Need-returns-2
 returns-2 c = built-found _ _ _ (c .built-of .result) (known (c .before)) (c .built-of .ensures)

@@ -26,16 +26,18 @@ known : (c : tie.After-known-told) →
     Admitted (now (start .args .file)) (start .args .a) (start .args .b) (c .before .counts .given .0 .0)
 known c = admitted _ _ _ (c .before .before .before .admit .ensures) (c .before .counts .given .1)
 
--- the two heights, for the system that the evaluator sees
+-- the two heights
 heights : (c : tie.After-struct-known) →
     let file = now (c .before .before .before .before .before .before .before .before .before .args .file) in
     let m = c .before .before .before .counts .given .0 .0 in
-    (c .before .count-least .result ≡ leastLevels (systemIn file m)) × (m .levels - c .before .count-least .result ≡ greatestLevels (systemIn file m))
+    (c .before .count-least .result ≡ leastLevels (decode file)) × (m .levels - c .before .count-least .result ≡ greatestLevels (decode file))
 heights c =
     let file = now (c .before .before .before .before .before .before .before .before .before .args .file) in
     let m = c .before .before .before .counts .given .0 .0 in
+    let same = known (c .before .before) .system in
     let least : c .before .count-least .result ≡ leastLevels (systemIn file m) = c .before .count-least .ensures in
-    (least, omega (arith, levels-sum (sign (systemIn file m)) (m .levels)))
+    let greatest : m .levels - c .before .count-least .result ≡ greatestLevels (systemIn file m) = omega (arith, levels-sum (sign (systemIn file m)) (m .levels)) in
+    (least ∙ ap leastLevels same, greatest ∙ ap greatestLevels same)
 
 -- what a look at a tree says, for the file's own system
 first-tree : {t : Bool} (c : tie.After-tree-is-bad) → c .tree-is-bad .result ≡ t →
@@ -43,14 +45,14 @@ first-tree : {t : Bool} (c : tie.After-tree-is-bad) → c .tree-is-bad .result �
     badTree (leastLevels (decode (now (start .args .file)))) (now (start .args .u)) ≡ t
 first-tree c e =
     let start = c .before .before .before .before .before .before .before .before .before .before in
-    ap (λ (h : ℕ). badTree h (now (start .args .u))) (sym (heights (c .before) .0 ∙ ap leastLevels (known (c .before .before .before) .system))) ∙ sym (c .tree-is-bad .ensures) ∙ e
+    ap (λ (h : ℕ). badTree h (now (start .args .u))) (sym (heights (c .before) .0)) ∙ sym (c .tree-is-bad .ensures) ∙ e
 
 second-tree : {t : Bool} (c : tie.After-tree-is-bad2) → c .tree-is-bad2 .result ≡ t →
     let start = c .before .before .before .before .before .before .before .before .before .before .before .before in
     badTree (greatestLevels (decode (now (start .args .file)))) (now (start .args .v)) ≡ t
 second-tree c e =
     let start = c .before .before .before .before .before .before .before .before .before .before .before .before in
-    ap (λ (h : ℕ). badTree h (now (start .args .v))) (sym (heights (c .before .before .before) .1 ∙ ap greatestLevels (known (c .before .before .before .before .before) .system)))
+    ap (λ (h : ℕ). badTree h (now (start .args .v))) (sym (heights (c .before .before .before) .1))
     ∙ sym (c .tree-is-bad2 .ensures) ∙ e
 
 admit-requires : tie.Need-admit-requires
@@ -79,7 +81,7 @@ sub-greatest : tie.Need-sub-greatest
 sub-greatest c =
     let file = now (c .before .before .before .before .before .before .before .before .before .args .file) in
     let m = c .before .before .before .counts .given .0 .0 in
-    omega (arith, heights c .0, levels-sum (sign (systemIn file m)) (m .levels))
+    omega (arith, c .before .count-least .ensures, levels-sum (sign (systemIn file m)) (m .levels))
 
 tree-is-bad-requires : tie.Need-tree-is-bad-requires
 tree-is-bad-requires c κs = search needs
@@ -100,7 +102,7 @@ lent-of-requires c κs =
     let hs = heights (c .before .before .before .before) in
     let u = good-tree _ (now (start .args .u)) (sym (c .before .before .before .tree-is-bad .ensures) ∙ c .before .before .if1 .left) in
     let v = good-tree _ (now (start .args .v)) (sym (c .before .tree-is-bad2 .ensures) ∙ c .if2 .left) in
-    (ad .held, record { least = hs .0; first = u; greatest = hs .1; second = v })
+    (ad .in-use, record { least = hs .0; first = u; greatest = hs .1; second = v })
 
 returns-4 : tie.Need-returns-4
 returns-4 c =

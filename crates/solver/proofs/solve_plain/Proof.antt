@@ -11,7 +11,7 @@ use Rattle.routes.proofs.Rounds.{settled-fits}
 use Rattle.solver.specs.Says.{handedOn, PlainSays}
 use Rattle.solver.specs.declared.Judged.{Judged}
 use Rattle.solver.proofs.Admitted.{Admitted, admitted, counted-range, turned-down}
-use Rattle.solver.proofs.Answers.{plain-refused, plain-outcome, plain-spent, plain-found}
+use Rattle.solver.proofs.Answers.{plain-refused, plain-spent, plain-found}
 use borrow.Author.Needs.{needs}
 use Rattle.solver.proofs.solve_plain.Statement.{statement}
 use Rattle.solver.proofs.solve_plain.Tie as tie
@@ -26,9 +26,7 @@ known c = admitted _ _ _ (c .before .before .before .admit .ensures) (c .before 
 outcome : (c : tie.After-plain-of) →
     let start = c .before .before .before .before .before .before in
     c .plain-of .result ≡ under (start .args .ceiling) (plainRun (decode (now (start .args .file))) (start .args .a) (start .args .b))
-outcome c =
-    let start = c .before .before .before .before .before .before in
-    plain-outcome (now (start .args .file)) (start .args .a) (start .args .b) (start .args .ceiling) (c .plain-of .result) (known (c .before)) (c .plain-of .ensures)
+outcome c = c .plain-of .ensures
 
 admit-requires : tie.Need-admit-requires
 admit-requires c κs = search needs
@@ -51,7 +49,7 @@ returns c =
     (plain-refused file (start .args .a) (start .args .b) (start .args .ceiling) (turned-down file (start .args .a) (start .args .b) (c .before .before .before .admit .ensures) told))
 
 plain-of-requires : tie.Need-plain-of-requires
-plain-of-requires c κs = (known c .held, counted-range (known c))
+plain-of-requires c κs = (known c .in-use, counted-range (known c))
 
 enum-known-run : tie.Need-enum-known-run
 enum-known-run c = search needs

@@ -1,8 +1,8 @@
 -- `solver_c::put_queried` meets its contract: the words of each case.
 -- Assumes nothing.
 use mathlib.Core.Path.{sym, ap, _∙_}
-use Rattle.model.specs.declared.evaluator.Queried.{Queried}
-use Rattle.model.specs.Says.{queriedAnswer}
+use Rattle.solver.specs.declared.Queried.{Queried}
+use Rattle.solver.specs.Says.{queriedAnswer}
 use Rattle.solver_c.specs.Words.{sixWords}
 use borrow.Author.Needs.{needs}
 use Rattle.solver_c.proofs.put_queried.Statement.{statement}

@@ -42,8 +42,8 @@ use denote.Triple.Table.{entered, cited}
 use denote.Triple.Walked.{says, needs, Stays, stay-none, walkOf, goes-none, Walks, ends-at, walked, walk-meets}
 use denote.Exit.{yes}
 use denote.Triple.Clauses.{ensured, lasts}
-use Rattle.routes.specs.Parts.{Sized}
-use Rattle.view.specs.View.{systemAt, InUse, BuiltIs}
+use Rattle.model.specs.File.{decode}
+use Rattle.view.specs.View.{InUse, BuiltIs}
 use Rattle.view.specs.declared.View.{View}
 use Rattle.routes.specs.declared.step.Found.{Found}
 use Rattle.routes.proofs.step.Found as S
@@ -76,10 +76,10 @@ module _ {M : Type 1} (𝓤 : URA M) (H : Heap 𝓤) (A : Atoms 𝓤) (W : Given
 
   -- what is asked and what is answered, for the view
   abbrev Asks : Type 0
-  Asks = InUse (now (d .file)) (d .lines) (d .levels) × Sized (d .lines)
+  Asks = InUse (now (d .file)) (d .lines) (d .levels)
 
   abbrev Says : Found → Type 0
-  Says r = BuiltIs (systemAt (now (d .file)) (d .lines) (d .levels)) a b r
+  Says r = BuiltIs (decode (now (d .file))) a b r
 
   abbrev vals : Vals this.signature (κ, tt)
   vals = (mach ∷ [], (vint w64 a ∷ [], (vint w64 b ∷ [], tt)))

@@ -42,7 +42,8 @@ use denote.Triple.Table.{entered, cited}
 use denote.Triple.Walked.{says, needs, Stays, stay-none, stay-none-slice, walkOf, goes-none, goes-none-slice, Walks, ends-at, walked, walk-meets}
 use denote.Exit.{yes}
 use denote.Triple.Clauses.{ensured, lasts}
-use Rattle.view.specs.View.{systemAt, InUse, Fitting, LentIs}
+use Rattle.model.specs.File.{decode}
+use Rattle.view.specs.View.{InUse, Fitting, LentIs}
 use Rattle.view.specs.declared.View.{View}
 use Rattle.routes.specs.declared.step.Found.{Found}
 use Rattle.routes.proofs.step.Found as S
@@ -75,10 +76,10 @@ module _ {M : Type 1} (𝓤 : URA M) (H : Heap 𝓤) (A : Atoms 𝓤) (W : Given
 
   -- what is asked and what is answered, for the view
   abbrev Asks : Type 0
-  Asks = InUse (now (d .file)) (d .lines) (d .levels) × Fitting (systemAt (now (d .file)) (d .lines) (d .levels)) hu (now u) hv (now v)
+  Asks = InUse (now (d .file)) (d .lines) (d .levels) × Fitting (decode (now (d .file))) hu (now u) hv (now v)
 
   abbrev Says : Found → Type 0
-  Says r = LentIs (systemAt (now (d .file)) (d .lines) (d .levels)) a b (now u) (now v) r
+  Says r = LentIs (decode (now (d .file))) a b (now u) (now v) r
 
   abbrev vals : Vals this.signature (κ, (κ₁, (κ₂, tt)))
   vals = (mach ∷ [], (vint w64 a ∷ [], (vint w64 b ∷ [], (vint w64 hu ∷ [], (sliceVal (u .ptr) (length (u .now)) ∷ [], (vint w64 hv ∷ [], (sliceVal (v .ptr) (length (v .now)) ∷ [], tt)))))))

@@ -1,23 +1,28 @@
 -- `view::lent_at` meets its contract: the evaluator's set and count with all levels left are those of the whole route.
 -- Assumes nothing.
+use mathlib.Core.Path.{sym, subst}
 use native.Mathlib.Nat.{le-refl}
 use denote.Ref.{now}
-use Rattle.view.specs.View.{countsOf}
-use Rattle.view.proofs.Whole.{zeros, restricted-whole}
+use Rattle.model.specs.System.{System}
+use Rattle.view.specs.View.{Fitting}
+use Rattle.view.proofs.InUse.{used}
+use Rattle.view.proofs.Whole.{zeros, lent-whole}
 use Rattle.view.proofs.lent_at.Statement.{statement}
 use Rattle.view.proofs.lent_at.Tie as tie
 
 lent-level-requires : tie.Need-lent-level-requires
 lent-level-requires c κs =
     let start = c .before .before .before .before in
-    let fit = start .pre .1 in
-    ((start .pre .0, start .pre .0 .few-levels), (le-refl _, ((fit .least, fit .first), (fit .greatest, fit .second))))
+    let args = start .args in
+    let model = used (now (args .file)) (args .lines) (args .levels) (start .pre .0) in
+    let fit = subst (λ (s : System). Fitting s (args .hu) (now (args .u)) (args .hv) (now (args .v))) (sym (model .system)) (start .pre .1) in
+    ((model .held, model .held .few-levels), (le-refl _, ((fit .least, fit .first), (fit .greatest, fit .second))))
 
 returns : tie.Need-returns
 returns c =
     let start = c .before .before .before .before .before in
     let args = start .args in
-    restricted-whole (now (args .file)) (countsOf (args .lines) (args .levels)) (args .a) (args .b) zeros (now (args .u)) (now (args .v)) (c .lent-level .result) (c .lent-level .ensures)
+    lent-whole (now (args .file)) (args .lines) (args .levels) (start .pre .0) zeros (args .a) (args .b) (now (args .u)) (now (args .v)) (c .lent-level .result) (c .lent-level .ensures)
 
 pub lent-at-spec : {M : Type 1} → statement M
 lent-at-spec = tie.close (tie.spec lent-level-requires returns)

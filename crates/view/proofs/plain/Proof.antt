@@ -45,7 +45,8 @@ use denote.Exit.{yes}
 use denote.Triple.Clauses.{ensured, lasts}
 use Rattle.fixpoint.specs.Lawful.{Range}
 use Rattle.fixpoint.specs.Sets.{sets}
-use Rattle.view.specs.View.{systemAt, InUse, PlainIs}
+use Rattle.model.specs.File.{decode}
+use Rattle.view.specs.View.{InUse, PlainIs}
 use Rattle.view.specs.declared.View.{View}
 use Rattle.routes.specs.declared.plain_route.Outcome.{Outcome}
 use Rattle.routes.proofs.plain_route.Outcome as S
@@ -81,7 +82,7 @@ module _ {M : Type 1} (𝓤 : URA M) (H : Heap 𝓤) (A : Atoms 𝓤) (W : Given
   Asks = InUse (now (d .file)) (d .lines) (d .levels) × Range (sets (d .lines)) a b
 
   abbrev Says : Outcome → Type 0
-  Says r = PlainIs (systemAt (now (d .file)) (d .lines) (d .levels)) a b ceiling r
+  Says r = PlainIs (decode (now (d .file))) a b ceiling r
 
   abbrev vals : Vals this.signature (κ, tt)
   vals = (mach ∷ [], (vint w64 a ∷ [], (vint w64 b ∷ [], (vint w64 ceiling ∷ [], tt))))

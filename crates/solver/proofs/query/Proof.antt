@@ -1,25 +1,25 @@
--- `model::evaluator::query` meets its contract: checking's refusal is handed on; then the arguments are checked, and the set is that
+-- `solver::query` meets its contract: checking's refusal is handed on; then the arguments are checked, and the set is that
 -- of the file's system.
 -- Assumes nothing.
 use borrow.Author.Needs.{needs}
 use borrow.Author.Tests.{eq-eqb, ne-eqb}
 use mathlib.Core.Bool.{cond}
 use mathlib.Core.List.{List}
-use mathlib.Core.Path.{_≡_, sym, _∙_, ap, ap₂}
+use mathlib.Core.Path.{_≡_, sym, _∙_, ap}
 use Prim.Native.Nat.{ℕ}
-use native.Mathlib.Nat.{le-of-eq}
 use lib.Dec.{eqb}
 use lib.ListN.{length}
-use lib.Seq.{take-all}
 use Rattle.answers.specs.Check.{firstOf}
 use Rattle.model.specs.File.{levelsIn, decode}
 use Rattle.model.specs.Query as spec
-use Rattle.model.specs.Checks.{some, strays, argumentChecks, queryNumber}
-use Rattle.model.specs.Says.{valued}
+use Rattle.model.specs.Checks.{some, strays}
+use Rattle.model.specs.Says.{readingAnswer}
 use Rattle.model.specs.declared.layout.Model.{Model}
 use Rattle.model.proofs.Accepted.{Checked, checked, refused, after-file, handed-on}
-use Rattle.model.proofs.evaluator.query.Statement.{statement}
-use Rattle.model.proofs.evaluator.query.Tie as tie
+use Rattle.solver.specs.Checks.{argumentChecks, queryNumber}
+use Rattle.solver.specs.Says.{valued}
+use Rattle.solver.proofs.query.Statement.{statement}
+use Rattle.solver.proofs.query.Tie as tie
 
 -- the file, its counts, and the arguments
 abbrev bytes : tie.After-known-told → List ℕ
@@ -78,17 +78,13 @@ counted c =
 returns-3 : tie.Need-returns-3
 returns-3 c = rw (counted (c .before), c .if2 .taken)
 
-evaluate-requires : tie.Need-evaluate-requires
-evaluate-requires c κs =
-    let checked = known (c .before .before .before .before) in
-    (checked .limits, (checked .room, le-of-eq (sym (c .before .before .if1 .left))))
+query-of-requires : tie.Need-query-of-requires
+query-of-requires c κs =
+    let told = c .before .before .before .before in
+    (sym (told .before .before .before .check .ensures) ∙ ap readingAnswer (told .before .counts .given .1), c .before .before .if1 .left)
 
 returns-4 : tie.Need-returns-4
-returns-4 c =
-    let told = c .before .before .before .before .before in
-    let all = take-all (model told .levels) (arguments told) (le-of-eq (c .before .before .before .if1 .left)) in
-    rw (counted (c .before .before), c .before .if2 .left)
-    (ap valued (c .evaluate .ensures ∙ ap₂ spec.query (known told .system) all))
+returns-4 c = rw (counted (c .before .before), c .before .if2 .left) (ap valued (c .query-of .ensures))
 
 pub query-spec : {M : Type 1} → statement M
 query-spec =
@@ -101,5 +97,5 @@ query-spec =
     returns-2
     one-strays-requires
     returns-3
-    evaluate-requires
+    query-of-requires
     returns-4)

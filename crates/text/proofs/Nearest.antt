@@ -1,0 +1,17 @@
+-- The share of one line or more is the whole number nearest to 1000 times good over n, a half upwards, and no other number is.
+-- Assumes nothing.
+use mathlib.Core.Path.{_≡_, sym}
+use Prim.Native.Nat.{ℕ, _+_, _*_, _<_}
+use native.Mathlib.Nat.{div-mul-le-self, lt-div-mul-add, div-eq-of-lt-le}
+use native.Mathlib.Omega.{arith}
+use Rattle.text.specs.Text.{shareOf, Nearest}
+
+module _ (good n : ℕ) (some : 0 < n) where
+  pub share-nearest : Nearest good n (shareOf good n)
+  share-nearest = record {
+    no-more = div-mul-le-self (2000 * good + n) (2 * n);
+    no-less = omega (arith, lt-div-mul-add {a = 2000 * good + n} {b = 2 * n} (omega arith));
+  }
+
+  pub only-share : {r : ℕ} → Nearest good n r → r ≡ shareOf good n
+  only-share {r} near = sym (div-eq-of-lt-le (2 * n) (near .no-more) (omega (arith, near .no-less)))
