@@ -14,7 +14,7 @@
 void solver_read(const uint8_t *file, size_t file_len, uint8_t *signs, size_t signs_len, uint8_t *kinds, size_t kinds_len,
                  uint64_t *words, size_t words_len, uint64_t answer[6]);
 
-/* Writes the file of a model into a buffer; bytes after the file are kept. */
+/* Writes the file of a model of n lines and d levels into a buffer; bytes after the file are kept. */
 void solver_write(size_t n, size_t d, const uint8_t *signs, size_t signs_len, const uint8_t *kinds, size_t kinds_len,
                   const uint64_t *words, size_t words_len, uint8_t *buffer, size_t buffer_len, uint64_t answer[6]);
 

@@ -124,8 +124,7 @@ fn the_built_in_trees_can_be_lent() {
         let u = Tree::built_in(n, case.model.least_levels()).gaps();
         let v = Tree::built_in(n, case.model.greatest_levels()).gaps();
         if u.len() <= 1023 && v.len() <= 1023 && (u.len() + 1) * (v.len() + 1) <= 50_000 {
-            let answer = ffi::lent(&case.file, case.a, case.b, &u, &v);
-            assert_eq!(answer, ffi::built(&case.file, case.a, case.b), "{case:?}");
+            assert_eq!(judge_both(&case, &u, &v), ffi::built(&case.file, case.a, case.b), "{case:?}");
             lent += 1;
         }
     }

@@ -61,6 +61,7 @@ fn every_size_is_judged_with_its_count() {
 #[test]
 fn larger_models_have_the_winning_lines_of_their_game() {
     let mut random = Random::new(403);
+    let limit = 10_000;
     let mut judged = 0;
     let mut between = 0;
     for round in 0..1500 {
@@ -69,11 +70,12 @@ fn larger_models_have_the_winning_lines_of_their_game() {
         if round % 2 == 0 {
             (case.a, case.b) = (0, full(n));
         }
-        let answer = ffi::plain(&case.file, case.a, case.b, 100_000);
+        let answer = ffi::plain(&case.file, case.a, case.b, limit);
+        let (a, b) = case.bounds();
         if answer == Answer::refused(10) {
+            assert!(rounds(&case.model, &a, &b, limit).is_none(), "{case:?}");
             continue;
         }
-        let (a, b) = case.bounds();
         let set = winning_lines(&case.model, &a, &b);
         assert_eq!((answer.number, answer.set), (0, word_of(&set)), "{case:?}");
         judged += 1;

@@ -1,7 +1,7 @@
 //! Document 01's samples, with the numbers that it gives.
 
 use harness::random::{full, Density, Random};
-use harness::reference::{Model, Operand};
+use harness::reference::{self, Model, Operand};
 use harness::{ffi, random, Answer};
 
 /// Model P: level 1 least, level 2 greatest; line 0 is all of (level 1, line 1), line 1 any of (level 2, line 0).
@@ -84,13 +84,14 @@ fn leaf_counts() {
 }
 
 #[test]
-fn s_of_2_and_of_3_have_their_gaps() {
+fn lending_the_gaps_of_s_answers_as_the_built_in_tree_does() {
     // Two levels of each sign, so that both trees have height 2.
     for (n, gaps) in [(2, &[2, 1][..]), (3, &[2, 1, 1, 2])] {
         let mut random = Random::new(701);
         for _ in 0..50 {
             let model = random::model(&mut random, n, &[false, true, false, true], Density::Few);
-            let lent = ffi::lent(&model.file(), 0, full(n), gaps, gaps);
+            let lent = reference::lent(&model.file(), 0, full(n), gaps, gaps);
+            assert_eq!(lent, ffi::lent(&model.file(), 0, full(n), gaps, gaps), "{model:?}");
             assert_eq!(lent, ffi::built(&model.file(), 0, full(n)), "{model:?}");
             assert_eq!(lent.count, (gaps.len() as u64 + 1).pow(2));
         }

@@ -1,4 +1,4 @@
--- Filling a list from the front: what is written so far stands in front of what the list still holds behind it.
+-- Filling a list from the front, or from the back: what is written so far, and what the list still holds beside it.
 -- Assumes nothing.
 use mathlib.Core.List.{List, [], _∷_, _++_, append-assoc, append-nil}
 use mathlib.Core.Path.{_≡_, sym, _∙_, ap, ap₂}

@@ -14,10 +14,11 @@ use Rattle.model.specs.declared.layout.Reading.the-variants as reading
 use Rattle.model.specs.declared.writer.Written.{Written}
 use Rattle.model.specs.declared.writer.Written.the-variants as written
 
--- accepted with the two counts, with a length
+-- accepted with the two counts
 abbrev pub sized : ℕ → ℕ → Answer
 sized n d = record { number = 0; set = 0; count = 0; length = 0; lines = n; levels = d }
 
+-- accepted with a length
 abbrev pub made : ℕ → Answer
 made bytes = record { number = 0; set = 0; count = 0; length = bytes; lines = 0; levels = 0 }
 

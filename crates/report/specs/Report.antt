@@ -5,14 +5,11 @@ use mathlib.Core.List.{List, [], _∷_, _++_}
 use Prim.Native.Nat.{ℕ, zero, suc}
 use lib.Dec.{ltb}
 use lib.ListN.{length}
-use Rattle.answers.specs.Answer.{numberOf}
+use Rattle.answers.specs.Answer.{Answer}
 use Rattle.sets.specs.Set.{full, members}
 use Rattle.model.specs.File.{decode}
 use Rattle.model.specs.Checks.{fileNumber}
-use Rattle.routes.specs.Routes.{builtLeast, builtGreatest, plainRun, restrictedSet, restrictedCount}
-use Rattle.solver.specs.Checks.{plainNumber}
-use Rattle.solver.specs.declared.Judged.{Judged}
-use Rattle.solver.specs.declared.Judged.the-variants.{Found, Refused}
+use Rattle.solver.specs.Says.{plainAnswer, builtAnswer}
 use Rattle.text.specs.Text.{hex, decimal, shareOf}
 
 -- the words of the output, in ASCII, each with a blank behind it
@@ -36,34 +33,26 @@ refusedLine e = refusedWord ++ (decimal e ++ (10 ∷ []))
 abbrev pub foundLine : ℕ → ℕ → List ℕ
 foundLine set count = hex set ++ (32 ∷ (decimal count ++ (10 ∷ [])))
 
--- what follows the word of a route, and the line of the share in n lines
-abbrev pub judgedLine : Judged → List ℕ
-judgedLine (Found set count) = foundLine set count
-judgedLine (Refused e) = refusedLine (numberOf e)
-
-abbrev pub shareOfSet : ℕ → ℕ → List ℕ
-shareOfSet set n = shareWord ++ (decimal (shareOf (members set) n) ++ (10 ∷ []))
-
-abbrev pub shareLine : Judged → ℕ → List ℕ
-shareLine (Found set count) n = shareOfSet set n
-shareLine (Refused e) n = shareOfSet 0 n
-
 -- by the number with which judging refuses, or 0
 abbrev pub foundOrRefused : ℕ → ℕ → ℕ → List ℕ
 foundOrRefused zero set count = foundLine set count
 foundOrRefused (suc e) set count = refusedLine (suc e)
 
+-- what follows the word of a route
+abbrev pub answerLine : Answer → List ℕ
+answerLine x = foundOrRefused (x .number) (x .set) (x .count)
+
+-- the line of the share of a set in n lines
+abbrev pub shareLine : ℕ → ℕ → List ℕ
+shareLine set n = shareWord ++ (decimal (shareOf (members set) n) ++ (10 ∷ []))
+
 -- the three lines for a file: both judgings from no line to all, plainly under a ceiling of 1,000,000
 abbrev pub threeLines : List ℕ → List ℕ
 threeLines file =
-    let s = decode file in
-    let all = full (s .lines) in
-    let run = plainRun s 0 all in
-    let tree = restrictedSet s 0 all (builtLeast s (s .lines)) (builtGreatest s (s .lines)) in
-    let count = restrictedCount s (builtLeast s (s .lines)) (builtGreatest s (s .lines)) in
-    plainWord ++ (foundOrRefused (plainNumber file 0 all 1000000) (run .value) (run .queries)
-    ++ (treeWord ++ (foundLine tree count
-    ++ shareOfSet tree (s .lines))))
+    let n = decode file .lines in
+    let plain = plainAnswer file 0 (full n) 1000000 in
+    let tree = builtAnswer file 0 (full n) in
+    plainWord ++ (answerLine plain ++ (treeWord ++ (answerLine tree ++ shareLine (tree .set) n)))
 
 abbrev pub linesOrRefused : ℕ → List ℕ → List ℕ
 linesOrRefused zero file = threeLines file

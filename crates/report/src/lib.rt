@@ -2,8 +2,9 @@
 ghost use Prim.Native.Nat.{_+_, _≤_};
 ghost use lib.ListN.{length};
 ghost use Rattle.answers.specs.Answer.{numberOf};
+ghost use Rattle.solver.specs.Says.{judgedAnswer};
 ghost use Rattle.text.specs.Text.{Puts};
-ghost use Rattle.report.specs.Report.{refusedLine, foundLine, judgedLine, shareLine, madeText};
+ghost use Rattle.report.specs.Report.{refusedLine, foundLine, answerLine, shareLine, madeText};
 use answers::Refusal;
 use model::Reading;
 use solver::Judged;
@@ -13,6 +14,9 @@ use text::put_hex;
 
 // The text of any input fits in so many bytes.
 pub const REPORT_SIZE: usize = 128;
+
+// The most queries that judging plainly may make.
+const PLAIN_CEILING: u64 = 1_000_000;
 
 // A refusal's line.
 fn put_refused(out: &mut [u8], at: usize, e: Refusal) -> usize
@@ -38,7 +42,7 @@ fn put_found(out: &mut [u8], at: usize, set: u64, count: u64) -> usize
 // The rest of a line for a judgement.
 fn put_judged(out: &mut [u8], at: usize, j: Judged) -> usize
     requires { ⌜ at + 38 ≤ length (now out) ⌝ }
-    ensures { λ r. ⌜ Puts at (judgedLine j) (now (out .entry)) (now (out .exit)) r ⌝ }
+    ensures { λ r. ⌜ Puts at (answerLine (judgedAnswer j)) (now (out .entry)) (now (out .exit)) r ⌝ }
 {
     match j {
         Judged::Found { set, count } => put_found(out, at, set, count),
@@ -49,7 +53,7 @@ fn put_judged(out: &mut [u8], at: usize, j: Judged) -> usize
 // The share's line for a judgement of n lines.
 fn put_share(out: &mut [u8], at: usize, j: Judged, n: usize) -> usize
     requires { ⌜ (at + 27 ≤ length (now out)) × (n ≤ 64) ⌝ }
-    ensures { λ r. ⌜ Puts at (shareLine j n) (now (out .entry)) (now (out .exit)) r ⌝ }
+    ensures { λ r. ⌜ Puts at (shareLine (judgedAnswer j .set) n) (now (out .entry)) (now (out .exit)) r ⌝ }
 {
     let set = match j {
         Judged::Found { set, count: _ } => set,
@@ -75,7 +79,7 @@ pub fn report(file: &[u8], out: &mut [u8]) -> usize
     };
     let all = sets::full_set(m.lines);
     let plain = put(out, 0, b"plain ");
-    let plain_end = put_judged(out, plain, solver::solve_plain(file, 0, all, 1000000));
+    let plain_end = put_judged(out, plain, solver::solve_plain(file, 0, all, PLAIN_CEILING));
     let judged = solver::solve_built(file, 0, all);
     let tree = put(out, plain_end, b"tree ");
     let tree_end = put_judged(out, tree, judged);

@@ -1,6 +1,6 @@
 -- What the evaluators compute on the way: the definitions of Routes.antt with some levels left, for the model of a lent file.
 -- Assumes nothing.
-use mathlib.Core.Bool.{Bool, true, false}
+use mathlib.Core.Bool.{cond}
 use mathlib.Core.List.{List, _∷_}
 use mathlib.Core.Path.{_≡_}
 use Prim.Native.Nat.{ℕ, _-_, _≤_}
@@ -19,7 +19,7 @@ use Rattle.routes.specs.declared.step.Found.{Found}
 use Rattle.routes.specs.declared.plain_route.Outcome.{Outcome}
 use Rattle.routes.specs.declared.plain_route.Outcome.the-variants.{Settled, Spent}
 
--- the file has as many lines and levels as its counts say
+-- the counts are within the limits, and the file is long enough for them
 pub record Held (file : List ℕ) (m : Model) : Type 0 where
   pub few-lines : m .lines ≤ 64
   pub few-levels : m .levels ≤ 8
@@ -52,12 +52,8 @@ abbrev pub queriesFrom : System → ℕ → List ℕ → List ℕ → ℕ
 queriesFrom s k u v = restricted-queries (sign s) k u v
 
 -- a run under a ceiling: its set with what is left of the ceiling, if the queries do not exceed it
-abbrev pub choose : Bool → Outcome → Outcome → Outcome
-choose true x y = x
-choose false x y = y
-
 abbrev pub under : ℕ → Run ℕ → Outcome
-under ceiling run = choose (leb (run .queries) ceiling) (Settled (run .value) (ceiling - run .queries)) Spent
+under ceiling run = cond (leb (run .queries) ceiling) (Settled (run .value) (ceiling - run .queries)) Spent
 
 -- A least level over the children us of its tree, and a greatest level over the children vs of its own, with `below` levels below:
 -- its value and its queries (fixpoint's Restricted.antt).

@@ -1,4 +1,4 @@
-// What the routes share: a level's sign, one more argument, and the bounded step with its query.
+// What the routes share: a level's sign, and the bounded step with its query.
 ghost use mathlib.Core.Path.{_≡_};
 ghost use Prim.Native.Nat.{_<_};
 ghost use lib.ListN.{take};

@@ -1,5 +1,5 @@
-// Document 01's worked samples: the models (specs/), the table of the samples that are proved (proofs/), and this program, which runs
-// the others. Its stored output was worked out from document 01.
+// Document 01's samples: the models and the table of the samples that are proved (specs/), and this program, which runs the others.
+// Its stored output is what document 01 says of them.
 use answers::Refusal;
 use libc::STDOUT_FILENO;
 use model::Reading;

@@ -19,10 +19,11 @@ use Rattle.solver.specs.declared.Judged.the-variants.{Found, Refused}
 use Rattle.solver.specs.declared.Queried.{Queried}
 use Rattle.solver.specs.declared.Queried.the-variants as queried
 
--- accepted with a set, and with a count too
+-- accepted with a set
 abbrev pub valued : ℕ → Answer
 valued set = record { number = 0; set = set; count = 0; length = 0; lines = 0; levels = 0 }
 
+-- accepted with a set and a count
 abbrev pub judged : ℕ → ℕ → Answer
 judged set count = record { number = 0; set = set; count = count; length = 0; lines = 0; levels = 0 }
 

@@ -2,7 +2,7 @@
 ghost use mathlib.Core.Path.{_≡_};
 ghost use lib.ListN.{length};
 ghost use Rattle.answers.specs.Answer.{refusal, numberOf};
-ghost use Rattle.trees.specs.Count.{answerOf, leafCountAnswer};
+ghost use Rattle.trees.specs.Count.{countedAnswer, leafCountAnswer};
 ghost use Rattle.model.specs.System.{systemOf};
 ghost use Rattle.model.specs.File.{decode, encode};
 ghost use Rattle.model.specs.Checks.{readNumber, writeNumber};
@@ -70,7 +70,7 @@ fn put_queried(answer: &mut [u64; 6], r: Queried)
 }
 
 fn put_leaves(answer: &mut [u64; 6], r: LeafCount)
-    ensures { λ _. ⌜ now (answer .exit) ≡ sixWords (answerOf r) ⌝ }
+    ensures { λ _. ⌜ now (answer .exit) ≡ sixWords (countedAnswer r) ⌝ }
 {
     match r {
         LeafCount::Leaves(count) => {

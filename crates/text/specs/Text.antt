@@ -29,7 +29,8 @@ hex x = digits 16 16 x
 abbrev pub decimal : ℕ → List ℕ
 decimal x = digits 10 (places 19 x) x
 
--- 1000 times good over n, rounded to a whole number, a half upwards; of no lines, 0, as division by 0 has it
+-- the share (document 01, "The judging program"): 1000 times good over n, rounded to a whole number, a half upwards; of no lines, 0, as
+-- division by 0 has it
 abbrev pub shareOf : ℕ → ℕ → ℕ
 shareOf good n = (2000 * good + n) / (2 * n)
 

@@ -10,9 +10,9 @@ use Rattle.trees.specs.declared.LeafCount.{LeafCount}
 use Rattle.trees.specs.declared.LeafCount.the-variants.{Leaves, Refused}
 
 -- the paper's answer of each case of the enum
-abbrev pub answerOf : LeafCount → Answer
-answerOf (Leaves c) = counted c
-answerOf (Refused e) = refusal (numberOf e)
+abbrev pub countedAnswer : LeafCount → Answer
+countedAnswer (Leaves c) = counted c
+countedAnswer (Refused e) = refusal (numberOf e)
 
 -- the answer that is asked for
 abbrev pub leafCountAnswer : ℕ → ℕ → Answer

@@ -2,7 +2,7 @@
 ghost use mathlib.Core.Path.{_≡_};
 ghost use Prim.Native.Nat.{_≤_};
 ghost use Rattle.trees.specs.Built.{leafCount};
-ghost use Rattle.trees.specs.Count.{answerOf, leafCountAnswer};
+ghost use Rattle.trees.specs.Count.{countedAnswer, leafCountAnswer};
 use answers::Refusal;
 use table::LEAF_COUNTS;
 
@@ -23,7 +23,7 @@ fn leaf_count_at(n: usize, h: usize) -> u64
 
 // The number of leaves of the built-in tree of height h for n lines.
 pub fn leaf_count(n: usize, h: usize) -> LeafCount
-    ensures { λ r. ⌜ answerOf r ≡ leafCountAnswer n h ⌝ }
+    ensures { λ r. ⌜ countedAnswer r ≡ leafCountAnswer n h ⌝ }
 {
     if n == 0 {
         return LeafCount::Refused(Refusal::Lines);

@@ -1,6 +1,7 @@
 -- `report::put_judged` meets its contract: each case of the judgement has its line.
 -- Assumes nothing.
 use borrow.Author.Needs.{needs}
+use Rattle.report.proofs.Lines.{refused-line}
 use Rattle.report.proofs.put_judged.Statement.{statement}
 use Rattle.report.proofs.put_judged.Tie as tie
 
@@ -26,7 +27,7 @@ same-length-2 : tie.Need-same-length-2
 same-length-2 c = search needs
 
 returns-2 : tie.Need-returns-2
-returns-2 c = rw (c .before .before .before .before .before .j2 .given .1) (c .before .before .put-refused .ensures)
+returns-2 c = rw (c .before .before .before .before .before .j2 .given .1, refused-line _ 0 0) (c .before .before .put-refused .ensures)
 
 pub put-judged-spec : {M : Type 1} → statement M
 put-judged-spec =

@@ -4,17 +4,17 @@ use native.Mathlib.Omega.{arith}
 use mathlib.Core.Logic.{⊎-elim}
 use mathlib.Core.Path.{_≡_, ap, _∙_}
 use Prim.Native.Nat.{ℕ}
+use Rattle.solver.specs.Says.{judgedAnswer}
 use Rattle.text.specs.Text.{shareOf}
 use Rattle.text.proofs.Digits.{decimal-few}
-use Rattle.report.specs.Report.{shareLine, shareOfSet}
 use Rattle.report.proofs.Lines.{puts-number}
 use borrow.Author.Needs.{needs}
 use Rattle.report.proofs.put_share.Statement.{statement}
 use Rattle.report.proofs.put_share.Tie as tie
 
 -- the set that is shared is the judgement's, or none where judging refused
-line : (c : tie.At-match-came) → shareLine (c .before .before .args .j) (c .before .before .args .n) ≡ shareOfSet (c .match .set) (c .before .before .args .n)
-line c = ⊎-elim (λ w. rw (w .1 .given .1, w .3)) (λ w. rw (w .1 .given .1, w .2)) (c .match .came)
+shared : (c : tie.At-match-came) → judgedAnswer (c .before .before .args .j) .set ≡ c .match .set
+shared c = ⊎-elim (λ w. rw (w .1 .given .1, w .3)) (λ w. rw (w .1 .given .1, w .2)) (c .match .came)
 
 enum-known-j : tie.Need-enum-known-j
 enum-known-j c = search needs
@@ -56,7 +56,7 @@ returns c =
     let start = word .before .before .before .before .before in
     let good = number .before .before .member-count .ensures in
     let share = number .before .share .ensures ∙ ap (λ (x : ℕ). shareOf x (start .args .n)) good in
-    rw (line (word .before .before .before))
+    rw (shared (word .before .before .before))
     (puts-number _ _ (omega (arith, start .pre)) share (word .put .ensures) (number .put-decimal .ensures) (c .before .before .put2 .ensures))
 
 pub put-share-spec : {M : Type 1} → statement M

@@ -8,8 +8,9 @@ use borrow.Author.Tests.{lt-ltb, le-ltb}
 use denote.Ref.{now}
 use lib.ListN.{length}
 use Rattle.model.proofs.Accepted.{Checked, checked, refused}
+use Rattle.solver.specs.Says.{judgedAnswer}
 use Rattle.text.proofs.Digits.{puts-then}
-use Rattle.report.proofs.Lines.{judged-few}
+use Rattle.report.proofs.Lines.{answer-few}
 use Rattle.report.proofs.Judgements.{refused-text, accepted-text}
 use borrow.Author.Needs.{needs}
 use Rattle.report.proofs.report.Statement.{statement}
@@ -25,10 +26,10 @@ known c = checked _ (c .before .before .before .check .ensures) (c .before .coun
 
 -- the room behind the plain line, and behind the tree's
 plain-room : (c : tie.After-put-judged) → c .put-judged .result + 84 ≤ length (c .put-judged .last .0)
-plain-room c = omega (arith, judged-few (c .before .solve-plain .result))
+plain-room c = omega (arith, answer-few (judgedAnswer (c .before .solve-plain .result)))
 
 tree-room : (c : tie.After-put-judged2) → c .put-judged2 .result + 41 ≤ length (c .put-judged2 .last .0)
-tree-room c = omega (arith, judged-few (c .before .before .before .before .before .before .before .solve-built .result), plain-room (plain-line c))
+tree-room c = omega (arith, answer-few (judgedAnswer (c .before .before .before .before .before .before .before .solve-built .result)), plain-room (plain-line c))
 
 returns : tie.Need-returns
 returns c = rw (lt-ltb _ 128 (c .if1 .taken)) (record { end = refl; left = refl })

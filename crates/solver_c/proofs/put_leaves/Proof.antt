@@ -2,7 +2,7 @@
 -- Assumes nothing.
 use mathlib.Core.Path.{sym, ap, _∙_}
 use Rattle.trees.specs.declared.LeafCount.{LeafCount}
-use Rattle.trees.specs.Count.{answerOf}
+use Rattle.trees.specs.Count.{countedAnswer}
 use Rattle.solver_c.specs.Words.{sixWords}
 use borrow.Author.Needs.{needs}
 use Rattle.solver_c.proofs.put_leaves.Statement.{statement}
@@ -18,10 +18,10 @@ put-refused-requires : tie.Need-put-refused-requires
 put-refused-requires c κs = search needs
 
 returns : tie.Need-returns
-returns c = sym (ap (λ (r : LeafCount). sixWords (answerOf r)) (c .before .before .r .given .1))
+returns c = sym (ap (λ (r : LeafCount). sixWords (countedAnswer r)) (c .before .before .r .given .1))
 
 returns-2 : tie.Need-returns-2
-returns-2 c = c .put-refused .ensures ∙ sym (ap (λ (r : LeafCount). sixWords (answerOf r)) (c .before .before .before .r2 .given .1))
+returns-2 c = c .put-refused .ensures ∙ sym (ap (λ (r : LeafCount). sixWords (countedAnswer r)) (c .before .before .before .r2 .given .1))
 
 pub put-leaves-spec : {M : Type 1} → statement M
 put-leaves-spec =

@@ -1,17 +1,10 @@
--- The samples that document 01 marks † as one table, whose rows all hold by computing the definitions.
+-- The samples that document 01 marks † as one table: what the definitions give beside what the paper says.
 -- Assumes nothing.
 use mathlib.Core.List.{List, [], _∷_}
-use mathlib.Core.Path.{_≡_, refl}
+use mathlib.Core.Path.{_≡_}
 use Prim.Native.Nat.{ℕ}
-use Rattle.sets.specs.Extreme.{meet-closed, join-open}
-use Rattle.trees.specs.Tree.{children, grow}
-use Rattle.trees.specs.Built.{built, built-children, leafCount}
-use Rattle.fixpoint.specs.Levels.{least-levels, greatest-levels}
-use Rattle.fixpoint.specs.Nested.{nested, extreme}
-use Rattle.fixpoint.specs.Restricted.{restricted, level, rise, fall, sum-over, level-queries, restricted-queries}
-use Rattle.fixpoint.specs.Plain.{then-rounds, settle, plain}
+use Rattle.trees.specs.Built.{built, leafCount}
 use Rattle.model.specs.System.{System}
-use Rattle.model.specs.Query.{selected, operands, setOf, query}
 use Rattle.routes.specs.Routes.{leastLevels, greatestLevels, nestedSet, plainRun, restrictedSet, restrictedCount}
 use Rattle.samples.specs.Models.{P, Q, one}
 
@@ -20,19 +13,19 @@ pub record Row : Type 0 where
   pub given : List ℕ
   pub said : List ℕ
 
-abbrev row : List ℕ → List ℕ → Row
+abbrev pub row : List ℕ → List ℕ → Row
 row given said = record { given = given; said = said }
 
 -- a model between two bounds: the nested fixpoint, then the plain set and count
-abbrev plainly : System → ℕ → ℕ → List ℕ
+abbrev pub plainly : System → ℕ → ℕ → List ℕ
 plainly m a b = nestedSet m a b ∷ plainRun m a b .value ∷ plainRun m a b .queries ∷ []
 
 -- the set and count over two trees
-abbrev over : System → ℕ → ℕ → List ℕ → List ℕ → List ℕ
+abbrev pub over : System → ℕ → ℕ → List ℕ → List ℕ → List ℕ
 over m a b u v = restrictedSet m a b u v ∷ restrictedCount m u v ∷ []
 
 -- the set and count over the built-in trees
-abbrev overBuilt : System → ℕ → ℕ → List ℕ
+abbrev pub overBuilt : System → ℕ → ℕ → List ℕ
 overBuilt m a b = over m a b (built (m .lines) (leastLevels m)) (built (m .lines) (greatestLevels m))
 
 unfoldable pub table : List Row
@@ -57,7 +50,3 @@ table =
 abbrev pub Holds : List Row → Type 0
 Holds [] = Unit {0}
 Holds (r ∷ rs) = (r .given ≡ r .said) × Holds rs
-
-pub samples-hold : Holds table
-unfolding table nested extreme restricted level rise fall sum-over level-queries restricted-queries then-rounds settle plain least-levels greatest-levels built built-children leafCount grow children meet-closed join-open selected operands setOf query
-samples-hold = (refl, (refl, (refl, (refl, (refl, (refl, (refl, (refl, (refl, (refl, (refl, (refl, (refl, tt)))))))))))))
