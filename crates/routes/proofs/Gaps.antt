@@ -1,14 +1,14 @@
 -- The first gap of a tree's height cuts its root's first child off: the gaps before it are that child, and those after it have the other children.
 -- Assumes nothing.
-use mathlib.Core.List.{List, [], _∷_, _++_}
+use mathlib.Core.List.{List, [], _∷_}
 use mathlib.Core.Path.{_≡_, sym, _∙_, ap}
 use Prim.Native.Nat.{ℕ, zero, suc, _+_, _-_, _<_}
 use native.Mathlib.Numerals.{add-one}
 use native.Mathlib.Omega.{arith}
 use lib.ListN.{length, getD, take, drop, length-take, length-drop}
 use lib.Seq.{split-at, take-all}
-use Rattle.trees.specs.Tree.{IsTree, leaf, gap, children, grow}
-use Rattle.trees.proofs.Children.{Trees, none, more, of-some, children-some, children-grow, grow-children, children-trees}
+use Rattle.trees.specs.Tree.{IsTree, leaf, gap, children}
+use Rattle.trees.proofs.Children.{part-alone, part-first}
 use Rattle.routes.specs.Parts.{Lent}
 
 -- no gap of h among the first r
@@ -39,19 +39,6 @@ drop-tree zero i = i
 drop-tree (suc r) leaf = leaf
 drop-tree (suc r) (gap low high i) = drop-tree r i
 
--- a tree of height h is the only child of a root of height h + 1, and before a gap of h + 1 it is the first child
-
-only-child : {h : ℕ} {p : List ℕ} → IsTree h p → children (suc h) p ≡ p ∷ []
-unfolding grow
-only-child {h} {p} i = children-grow h p [] (more i none)
-
-first-child : {h : ℕ} {p q : List ℕ} → IsTree h p → IsTree (suc h) q → children (suc h) (p ++ suc h ∷ q) ≡ p ∷ children (suc h) q
-unfolding grow
-first-child {h} {p} {q} i j =
-    ap (λ (l : List ℕ). children (suc h) (p ++ suc h ∷ l)) (sym (grow-children (suc h) q))
-    ∙ of-some (λ ts. Trees h ts → children (suc h) (p ++ suc h ∷ grow (suc h) ts) ≡ p ∷ ts) (λ t ts is. children-grow h p (t ∷ ts) (more i is))
-    (children-some (suc h) q) (children-trees h q j)
-
 -- a lent tree, cut at its first gap of its height
 module _ {h hu : ℕ} (u : List ℕ) (cut : ℕ) (suc-h : hu ≡ suc h) (lent : Lent hu u) (free : NoneBefore u hu cut) where
   front : IsTree h (take cut u)
@@ -69,9 +56,9 @@ module _ {h hu : ℕ} (u : List ℕ) (cut : ℕ) (suc-h : hu ≡ suc h) (lent : 
 
   pub cut-none : cut ≡ length u → children hu u ≡ take cut u ∷ []
   cut-none e =
-      rw suc-h (ap (children (suc h)) (sym (take-all cut u (omega arith))) ∙ only-child front)
+      rw suc-h (ap (children (suc h)) (sym (take-all cut u (omega arith))) ∙ part-alone h (take cut u) front)
 
   pub cut-first : cut < length u → getD u cut 0 ≡ hu → children hu u ≡ take cut u ∷ children hu (after u cut)
   cut-first l e =
       rw (after-drop u cut, suc-h)
-      (ap (children (suc h)) (split-at u cut 0 l ∙ rw (e, suc-h)) ∙ first-child front (drop-tree (suc cut) (rw suc-h at (lent .tree))))
+      (ap (children (suc h)) (split-at u cut 0 l ∙ rw (e, suc-h)) ∙ part-first h (take cut u) (drop (suc cut) u) front)

@@ -1,4 +1,4 @@
--- Trees and the children of their roots. A tree is what its children grow into, and has as many leaves as they have together.
+-- Trees and the children of their roots. A tree has as many leaves as its children have together.
 -- Trees of height h grow into a tree of height h + 1, whose children they are, and the children of a tree of height h + 1 are such trees.
 -- Assumes nothing.
 use mathlib.Core.Bool.{Bool, true, false}
@@ -66,13 +66,13 @@ onto low high (more i is) = more (gap low high i) is
 -- what trees grow into
 
 -- a tree of height h is its own only part between gaps equal to h + 1
-part-alone : (h : ℕ) (p : List ℕ) → IsTree h p → children (suc h) p ≡ p ∷ []
+pub part-alone : (h : ℕ) (p : List ℕ) → IsTree h p → children (suc h) p ≡ p ∷ []
 unfolding children
 part-alone h [] i = refl
 part-alone h (g ∷ p) (gap low high i) = simp (ne-eqb g (suc h) (omega arith), part-alone h p i)
 
 -- and the first part, up to such a gap
-part-first : (h : ℕ) (p q : List ℕ) → IsTree h p → children (suc h) (p ++ suc h ∷ q) ≡ p ∷ children (suc h) q
+pub part-first : (h : ℕ) (p q : List ℕ) → IsTree h p → children (suc h) (p ++ suc h ∷ q) ≡ p ∷ children (suc h) q
 unfolding children
 part-first h [] q i = simp (eq-eqb (suc h) (suc h) refl)
 part-first h (g ∷ p) q (gap low high i) = simp (ne-eqb g (suc h) (omega arith), part-first h p q i)
@@ -130,10 +130,6 @@ found h (g ∷ gs) = step (found h gs) (eqb g h) refl
           parts = inside (eqb-false g h e) (f .parts);
         }
 
--- a root has at least one child
-pub children-some : (h : ℕ) (gs : List ℕ) → Some (children h gs)
-children-some h gs = found h gs .some
-
 parts-total : {h : ℕ} {gs p : List ℕ} {ps : List (List ℕ)} → Parts h gs p ps → total (p ∷ ps) ≡ leaves gs
 unfolding total
 parts-total end = refl
@@ -142,20 +138,6 @@ parts-total (inside ne r) = omega (arith, parts-total r)
 
 pub children-total : (h : ℕ) (gs : List ℕ) → total (children h gs) ≡ leaves gs
 children-total h gs = ap total (found h gs .some .are) ∙ parts-total (found h gs .parts)
-
-grow-onto : (h g : ℕ) (p : List ℕ) (ps : List (List ℕ)) → grow h ((g ∷ p) ∷ ps) ≡ g ∷ grow h (p ∷ ps)
-unfolding grow
-grow-onto h g p [] = refl
-grow-onto h g p (q ∷ ps) = refl
-
-parts-grow : {h : ℕ} {gs p : List ℕ} {ps : List (List ℕ)} → Parts h gs p ps → grow h (p ∷ ps) ≡ gs
-unfolding grow
-parts-grow end = refl
-parts-grow {h} (cut r) = ap (λ (l : List ℕ). h ∷ l) (parts-grow r)
-parts-grow {h} (inside {g = g} {p = p} {ps = ps} ne r) = grow-onto h g p ps ∙ ap (λ (l : List ℕ). g ∷ l) (parts-grow r)
-
-pub grow-children : (h : ℕ) (gs : List ℕ) → grow h (children h gs) ≡ gs
-grow-children h gs = ap (grow h) (found h gs .some .are) ∙ parts-grow (found h gs .parts)
 
 parts-trees : {h : ℕ} {gs p : List ℕ} {ps : List (List ℕ)} → Parts (suc h) gs p ps → IsTree (suc h) gs → Trees h (p ∷ ps)
 parts-trees end i = more leaf none
