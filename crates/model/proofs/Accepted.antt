@@ -10,9 +10,8 @@ use lib.Dec.{ltb}
 use lib.ListN.{length, getD, length-drop}
 use lib.Seq.{length-take-le}
 use borrow.Author.Tests.{ltb-false, eqb-true, not-false}
-use Rattle.answers.specs.Answer.{Answer, refusal, numberOf}
-use Rattle.answers.specs.Check.{Check, firstOf, unless}
-use Rattle.answers.proofs.Checks.{Passes, passes-both, first-after, first-before, none-first, inside, unless-refused}
+use Rattle.answers.specs.Check.{Check, firstOf}
+use Rattle.answers.proofs.Checks.{Passes, passes-both, first-after, none-first, inside}
 use Rattle.model.specs.File.{linesIn, levelsIn, fileLength, sections, decode}
 use Rattle.model.specs.Query.{wordsOf}
 use Rattle.model.specs.Checks.{some, strays, idle, headerChecks, contentChecks, fileChecks, fileNumber}
@@ -126,12 +125,3 @@ module _ (file : List ℕ) (more : List Check) where
   pub after-file : fileNumber file ≡ 0 → firstOf (fileChecks file ++ more) ≡ firstOf more
   unfolding fileNumber
   after-file h = first-after (fileChecks file) more (none-first (fileChecks file) refl h)
-
-  pub before-file : 0 < fileNumber file → firstOf (fileChecks file ++ more) ≡ fileNumber file
-  unfolding fileNumber
-  before-file = first-before (fileChecks file) more
-
-  -- a refusal of the file is the whole answer
-  pub handed-on : {r : Refusal} (a : Answer) → RefusedAs (fileNumber file) r
-      → unless (firstOf (fileChecks file ++ more)) a ≡ refusal (numberOf r)
-  handed-on {r} a h = rw (before-file (h .positive), h .number) (unless-refused a (h .positive))

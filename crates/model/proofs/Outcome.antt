@@ -5,10 +5,8 @@ use mathlib.Core.Path.{_≡_, refl, sym, _∙_, ap, ap₂}
 use Prim.Native.Nat.{ℕ, zero, suc, _<_}
 use native.Mathlib.Omega.{arith}
 use lib.ListN.{length, drop}
-use Rattle.answers.specs.Answer.{Answer, refusal, numberOf}
 use Rattle.answers.specs.Check.{unless}
 use Rattle.answers.specs.declared.Refusal.{Refusal}
-use Rattle.answers.proofs.Checks.{unless-refused}
 use Rattle.model.specs.System.{System, systemOf}
 use Rattle.model.specs.File.{fileLength, linesIn, levelsIn, sections, decode, encode}
 use Rattle.model.specs.Checks.{readNumber, writeNumber}
@@ -17,7 +15,7 @@ use Rattle.model.specs.declared.layout.Model.{Model}
 use Rattle.model.specs.declared.layout.Reading.{Reading}
 use Rattle.model.specs.declared.layout.Reading.the-variants as reading
 use Rattle.model.specs.declared.writer.Written.the-variants as written
-use Rattle.model.proofs.Refusals.{AcceptedAs, RefusedAs}
+use Rattle.model.proofs.Refusals.{AcceptedAs, RefusedAs, refused-answer}
 use Rattle.model.proofs.Accepted.{decoded}
 use Rattle.model.proofs.RoundTrip.{Sliced, encode-length}
 
@@ -25,9 +23,6 @@ use Rattle.model.proofs.RoundTrip.{Sliced, encode-length}
 filled-refused : {e : ℕ} (new old : List ℕ) → 0 < e → old ≡ filled e new old
 filled-refused {e = zero} new old h = absurd (omega arith)
 filled-refused {e = suc e} new old h = refl
-
-refused-answer : {e : ℕ} {r : Refusal} → RefusedAs e r → (a : Answer) → refusal (numberOf r) ≡ unless e a
-refused-answer h a = ap refusal (h .number) ∙ sym (unless-refused a (h .positive))
 
 pub write-refused : (m : System) (buffer : List ℕ) (r : Refusal) → RefusedAs (writeNumber m (length buffer)) r → WriteSays m buffer (written.Refused r) buffer
 write-refused m buffer r h = record { answer = refused-answer h (made _); buffer-left = filled-refused (encode m) buffer (h .positive) }

@@ -1,13 +1,13 @@
--- What an answer of checking or reading says of its number and of the counts.
+-- What an answer of checking or reading says of its number and of the counts, and the answer that a refusal is.
 -- Assumes nothing.
 use mathlib.Core.List.{List, _++_}
 use mathlib.Core.Path.{_≡_, refl, sym, _∙_, ap}
 use Prim.Native.Nat.{ℕ, zero, suc, _<_}
 use native.Mathlib.Omega.{arith}
-use Rattle.answers.specs.Answer.{Answer, numberOf}
+use Rattle.answers.specs.Answer.{Answer, refusal, numberOf}
 use Rattle.answers.specs.Check.{Check, firstOf, unless}
 use Rattle.answers.specs.declared.Refusal.{Refusal}
-use Rattle.answers.proofs.Checks.{first-before, number-positive}
+use Rattle.answers.proofs.Checks.{first-before, unless-refused, number-positive}
 use Rattle.model.specs.Says.{readingAnswer, sized}
 use Rattle.model.specs.declared.layout.Model.{Model}
 use Rattle.model.specs.declared.layout.Reading.{Reading}
@@ -30,6 +30,10 @@ pub record RefusedAs (e : ℕ) (r : Refusal) : Type 0 where
 
 pub refused-by : (r : Refusal) {e : ℕ} → e ≡ numberOf r → RefusedAs e r
 refused-by r h = record { number = sym h; positive = omega (arith, number-positive r) }
+
+-- a refusal is the whole answer
+pub refused-answer : {e : ℕ} {r : Refusal} → RefusedAs e r → (a : Answer) → refusal (numberOf r) ≡ unless e a
+refused-answer h a = ap refusal (h .number) ∙ sym (unless-refused a (h .positive))
 
 -- checks of which one refuses decide
 pub refused-before : (cs ds : List Check) {r : Refusal} → RefusedAs (firstOf cs) r → RefusedAs (firstOf (cs ++ ds)) r

@@ -3,14 +3,12 @@
 use mathlib.Core.Bool.{false, not, _||_}
 use mathlib.Mathlib.Data.Bool.Basic.{or-eq-false-eq-eq-false-and-eq-false as neither}
 use mathlib.Core.List.{List, [], _∷_, _++_}
-use mathlib.Core.Path.{_≡_, refl, sym, _∙_, ap, ap₂, subst}
+use mathlib.Core.Path.{_≡_, refl, sym, ap₂, subst}
 use Prim.Native.Nat.{ℕ, _≤_}
-use native.Mathlib.Omega.{arith}
 use borrow.Author.Tests.{not-false}
-use Rattle.answers.specs.Answer.{Answer, refusal, numberOf}
 use Rattle.answers.specs.Check.{Check, _if_, firstOf, unless}
 use Rattle.answers.specs.declared.Refusal.{Refusal}
-use Rattle.answers.proofs.Checks.{Passes, passes-both, passes-none, first-after, first-before, none-first, unless-refused}
+use Rattle.answers.proofs.Checks.{Passes, passes-both, passes-none, first-after, none-first}
 use Rattle.sets.specs.Set.{full, isWithin}
 use Rattle.sets.proofs.Order.{within-le}
 use Rattle.sets.proofs.Range.{full-below}
@@ -80,11 +78,3 @@ module _ (file : List ℕ) (a b : ℕ) where
   -- the number of an operation that makes more checks behind these
   pub after-bounds : (more : List Check) → builtNumber file a b ≡ 0 → firstOf (boundChecks file a b ++ more) ≡ firstOf more
   after-bounds more h = first-after (boundChecks file a b) more (passes h)
-
-  pub handed-on : (more : List Check) {e : Refusal} (x : Answer) → RefusedAs (builtNumber file a b) e → unless (firstOf (boundChecks file a b ++ more)) x ≡ refusal (numberOf e)
-  unfolding builtNumber
-  handed-on more x h =
-      ap (λ (n : ℕ). unless n x) (first-before (boundChecks file a b) more (h .positive)) ∙ unless-refused x (h .positive) ∙ ap refusal (sym (h .number))
-
-  pub handed-on-bounds : {e : Refusal} (x : Answer) → RefusedAs (builtNumber file a b) e → unless (builtNumber file a b) x ≡ refusal (numberOf e)
-  handed-on-bounds x h = unless-refused x (h .positive) ∙ ap refusal (sym (h .number))

@@ -2,24 +2,24 @@
 -- with all that is promised of it besides.
 -- Assumes nothing.
 use mathlib.Core.Bool.{Bool, true, false, cond, true≢false, _||_}
-use mathlib.Core.List.{List, [], _∷_, _++_}
+use mathlib.Core.List.{List, [], _∷_}
 use mathlib.Core.Path.{_≡_, refl, sym, _∙_, ap₂}
-use Prim.Native.Nat.{ℕ, _-_, _≤_, _<_}
+use Prim.Native.Nat.{ℕ, _-_, _≤_}
 use native.Mathlib.Omega.{arith}
 use mathlib.Mathlib.Data.Bool.Basic.{or-eq-false-eq-eq-false-and-eq-false as neither}
 use borrow.Author.Tests.{le-ltb, lt-ltb, ltb-false}
 use lib.Dec.{ltb}
 use lib.ListN.{length}
-use Rattle.answers.specs.Check.{Check, _if_, firstOf, outside}
+use Rattle.answers.specs.Check.{Check, _if_, outside}
 use Rattle.answers.specs.declared.Refusal.{Refusal}
 use Rattle.answers.specs.declared.Refusal.the-variants.{Ceiling, Tree}
-use Rattle.answers.proofs.Checks.{first-before, inside}
+use Rattle.answers.proofs.Checks.{inside}
 use Rattle.fixpoint.specs.Plain.{Run}
 use Rattle.trees.specs.Tree.{IsTree, leaf, gap}
 use Rattle.model.specs.File.{decode}
 use Rattle.model.specs.Checks.{some}
 use Rattle.model.specs.declared.layout.Model.{Model}
-use Rattle.model.proofs.Refusals.{RefusedAs}
+use Rattle.model.proofs.Refusals.{RefusedAs, refused-before, refused-answer}
 use Rattle.routes.specs.Parts.{under, Lent}
 use Rattle.routes.specs.Routes.{leastLevels, greatestLevels, plainRun}
 use Rattle.routes.specs.declared.step.Found.{Found}
@@ -30,7 +30,7 @@ use Rattle.view.specs.View.{BuiltIs, LentIs}
 use Rattle.solver.specs.Checks.{badTree, boundChecks, builtNumber, plainNumber, treeChecks, lentNumber}
 use Rattle.solver.specs.Says.{judged, PlainSays, BuiltSays, LentSays}
 use Rattle.solver.specs.declared.Judged.the-variants as judgement
-use Rattle.solver.proofs.Admitted.{Admitted, after-bounds, handed-on, handed-on-bounds}
+use Rattle.solver.proofs.Admitted.{Admitted, after-bounds}
 
 -- a tree that is not bad is one of its height, as short as may be lent
 pub good-tree : (h : ℕ) (gaps : List ℕ) → badTree h gaps ≡ false → Lent h gaps
@@ -45,20 +45,21 @@ good-tree h gaps e =
         let bounds = inside h g (both .0) in
         gap (bounds .0) (bounds .1) (within gs (both .1))
 
-module _ (file : List ℕ) (a b : ℕ) where
-  -- a number of checks behind those up to 9 is not 0 where one of these applies
-  still-refused : (more : List Check) {e : Refusal} → RefusedAs (builtNumber file a b) e → firstOf (boundChecks file a b ++ more) ≡ 0 → ⊥
-  unfolding builtNumber
-  still-refused more h z = let p : 0 < builtNumber file a b = h .positive in omega (arith, first-before (boundChecks file a b) more (h .positive))
+-- a number that refuses is not 0
+never : {n : ℕ} {e : Refusal} → RefusedAs n e → n ≡ 0 → ⊥
+never h z = omega (arith, h .positive)
 
+module _ (file : List ℕ) (a b : ℕ) where
   -- judging plainly
   module _ (ceiling : ℕ) where
     abbrev ceilingChecks : List Check
     ceilingChecks = 10 if ltb ceiling (plainRun (decode file) a b .queries) ∷ []
 
     pub plain-refused : {e : Refusal} → RefusedAs (builtNumber file a b) e → PlainSays file a b ceiling (judgement.Refused e)
-    unfolding plainNumber
-    plain-refused h = record { answer = sym (handed-on file a b ceilingChecks _ h); nested = λ z. absurd (still-refused ceilingChecks h z) }
+    unfolding builtNumber plainNumber
+    plain-refused h =
+        let still = refused-before (boundChecks file a b) ceilingChecks h in
+        record { answer = refused-answer still _; nested = λ z. absurd (never still z) }
 
     pub plain-spent : {m : Model} → Admitted file a b m → under ceiling (plainRun (decode file) a b) ≡ outcome.Spent → PlainSays file a b ceiling (judgement.Refused Ceiling)
     unfolding plainNumber
@@ -82,9 +83,7 @@ module _ (file : List ℕ) (a b : ℕ) where
 
   -- judging by built-in trees
   pub built-refused : {e : Refusal} → RefusedAs (builtNumber file a b) e → BuiltSays file a b (judgement.Refused e)
-  built-refused h =
-      let never : builtNumber file a b ≡ 0 → ⊥ = λ z. let p : 0 < builtNumber file a b = h .positive in omega arith in
-      record { answer = sym (handed-on-bounds file a b _ h); product = λ z. absurd (never z); nested = λ z. absurd (never z) }
+  built-refused h = record { answer = refused-answer h _; product = λ z. absurd (never h z); nested = λ z. absurd (never h z) }
 
   pub built-found : {m : Model} (r : Found) → Admitted file a b m → BuiltIs (decode file) a b r → BuiltSays file a b (judgement.Found (r .set) (r .count))
   built-found r ad g =
@@ -97,10 +96,10 @@ module _ (file : List ℕ) (a b : ℕ) where
   -- judging by lent trees
   module _ (u v : List ℕ) where
     pub lent-refused : {e : Refusal} → RefusedAs (builtNumber file a b) e → LentSays file a b u v (judgement.Refused e)
-    unfolding lentNumber
+    unfolding builtNumber lentNumber
     lent-refused h =
-        let never : firstOf (boundChecks file a b ++ treeChecks file u v) ≡ 0 → ⊥ = still-refused (treeChecks file u v) h in
-        record { answer = sym (handed-on file a b (treeChecks file u v) _ h); product = λ z. absurd (never z); nested = λ z. absurd (never z) }
+        let still = refused-before (boundChecks file a b) (treeChecks file u v) h in
+        record { answer = refused-answer still _; product = λ z. absurd (never still z); nested = λ z. absurd (never still z) }
 
     -- a bad tree; the first is looked at first
     pub lent-bad : {m : Model} (p q : Bool) → Admitted file a b m → badTree (leastLevels (decode file)) u ≡ p → badTree (greatestLevels (decode file)) v ≡ q → (p || q) ≡ true

@@ -7,8 +7,10 @@ use Prim.Native.Nat.{ℕ}
 use denote.Ref.{now}
 use Rattle.answers.specs.Check.{_if_}
 use Rattle.model.specs.File.{linesIn}
+use Rattle.model.specs.Checks.{fileChecks, fileNumber}
 use Rattle.model.specs.Says.{readingAnswer, sized}
-use Rattle.model.proofs.Accepted.{Checked, checked, refused, after-file, handed-on}
+use Rattle.model.proofs.Refusals.{refused-before, refused-answer}
+use Rattle.model.proofs.Accepted.{Checked, checked, refused, after-file}
 use Rattle.solver.specs.Checks.{misplaced, builtNumber}
 use borrow.Author.Needs.{needs}
 use Rattle.solver.proofs.admit.Statement.{statement}
@@ -39,12 +41,14 @@ enum-told : tie.Need-enum-told
 enum-told c = search needs
 
 returns : tie.Need-returns
-unfolding builtNumber
+unfolding builtNumber fileNumber
 returns c =
     let start = c .before .before .before .before in
     let file = now (start .args .file) in
     ap readingAnswer (c .enum-told .given .1)
-    ∙ sym (handed-on file (9 if misplaced (linesIn file) (start .args .a) (start .args .b) ∷ []) _ (refused file (c .before .before .check .ensures) (c .enum-told .given .1)))
+    ∙ refused-answer
+    (refused-before (fileChecks file) (9 if misplaced (linesIn file) (start .args .a) (start .args .b) ∷ []) (refused file (c .before .before .check .ensures) (c .enum-told .given .1)))
+    _
 
 bounds-misplaced-requires : tie.Need-bounds-misplaced-requires
 bounds-misplaced-requires c κs = known c .limits .0

@@ -12,10 +12,11 @@ use lib.ListN.{length}
 use Rattle.answers.specs.Check.{firstOf}
 use Rattle.model.specs.File.{levelsIn, decode}
 use Rattle.model.specs.Query as spec
-use Rattle.model.specs.Checks.{some, strays}
+use Rattle.model.specs.Checks.{some, strays, fileChecks, fileNumber}
 use Rattle.model.specs.Says.{readingAnswer}
 use Rattle.model.specs.declared.layout.Model.{Model}
-use Rattle.model.proofs.Accepted.{Checked, checked, refused, after-file, handed-on}
+use Rattle.model.proofs.Refusals.{refused-before, refused-answer}
+use Rattle.model.proofs.Accepted.{Checked, checked, refused, after-file}
 use Rattle.solver.specs.Checks.{argumentChecks, queryNumber}
 use Rattle.solver.specs.Says.{valued}
 use Rattle.solver.proofs.query.Statement.{statement}
@@ -49,13 +50,13 @@ enum-known-counts-2 : tie.Need-enum-known-counts-2
 enum-known-counts-2 c = search needs
 
 returns : tie.Need-returns
-unfolding queryNumber
+unfolding queryNumber fileNumber
 returns c =
     let start = c .before .before .before .before .before .before .args in
     let file = start .file .now in
     let xs = start .xs .now in
     let refusal = refused file (c .before .before .before .check .ensures) (c .before .counts2 .given .1) in
-    sym (handed-on file (argumentChecks file xs) (valued (spec.query (decode file) xs)) refusal)
+    refused-answer (refused-before (fileChecks file) (argumentChecks file xs) refusal) (valued (spec.query (decode file) xs))
 
 length-test : (c : tie.After-known-told) → eqb (length (arguments c)) (levelsIn (bytes c)) ≡ eqb (length (arguments c)) (model c .levels)
 length-test c = ap (eqb (length (arguments c))) (sym (known c .counts .levels))
