@@ -57,6 +57,10 @@ none-first (c ∷ cs) p h = at (c .applies) (none-first cs (both .1)) h
     at true later h = absurd (omega (arith, ltb-true 0 (c .number) (both .0)))
     at false later h = (refl, later h)
 
+-- checks whose number is 0 are passed over
+pub after-none : (cs ds : List Check) → numbered cs ≡ true → firstOf cs ≡ 0 → firstOf (cs ++ ds) ≡ firstOf ds
+after-none cs ds p h = first-after cs ds (none-first cs p h)
+
 -- a count that is not outside is 1 to `most`
 pub inside : (most n : ℕ) → outside most n ≡ false → (0 < n) × (n ≤ most)
 inside most n h =

@@ -11,7 +11,7 @@ use lib.ListN.{length, getD, length-drop}
 use lib.Seq.{length-take-le}
 use borrow.Author.Tests.{ltb-false, eqb-true, not-false}
 use Rattle.answers.specs.Check.{Check, firstOf}
-use Rattle.answers.proofs.Checks.{Passes, passes-both, first-after, none-first, inside}
+use Rattle.answers.proofs.Checks.{Passes, passes-both, none-first, after-none, inside}
 use Rattle.model.specs.File.{linesIn, levelsIn, fileLength, sections, decode}
 use Rattle.model.specs.Query.{wordsOf}
 use Rattle.model.specs.Checks.{some, strays, idle, headerChecks, contentChecks, fileChecks, fileNumber}
@@ -121,7 +121,6 @@ module _ (file : List ℕ) {a : Reading} (h : readingAnswer a ≡ checkAnswer fi
   refused = refused-as (fileNumber file) (linesIn file) (levelsIn file) h
 
 -- further checks are made of an accepted file alone
-module _ (file : List ℕ) (more : List Check) where
-  pub after-file : fileNumber file ≡ 0 → firstOf (fileChecks file ++ more) ≡ firstOf more
-  unfolding fileNumber
-  after-file h = first-after (fileChecks file) more (none-first (fileChecks file) refl h)
+pub after-file : (file : List ℕ) (more : List Check) → fileNumber file ≡ 0 → firstOf (fileChecks file ++ more) ≡ firstOf more
+unfolding fileNumber
+after-file file more = after-none (fileChecks file) more refl

@@ -8,7 +8,7 @@ use Prim.Native.Nat.{ℕ, _≤_}
 use borrow.Author.Tests.{not-false}
 use Rattle.answers.specs.Check.{Check, _if_, firstOf, unless}
 use Rattle.answers.specs.declared.Refusal.{Refusal}
-use Rattle.answers.proofs.Checks.{Passes, passes-both, passes-none, first-after, none-first}
+use Rattle.answers.proofs.Checks.{Passes, passes-both, passes-none, none-first, after-none}
 use Rattle.sets.specs.Set.{full, isWithin}
 use Rattle.sets.proofs.Order.{within-le}
 use Rattle.sets.proofs.Range.{full-below}
@@ -77,4 +77,5 @@ module _ (file : List ℕ) (a b : ℕ) where
 
   -- the number of an operation that makes more checks behind these
   pub after-bounds : (more : List Check) → builtNumber file a b ≡ 0 → firstOf (boundChecks file a b ++ more) ≡ firstOf more
-  after-bounds more h = first-after (boundChecks file a b) more (passes h)
+  unfolding builtNumber
+  after-bounds more = after-none (boundChecks file a b) more refl
