@@ -8,7 +8,7 @@ use Prim.Native.Nat.{ℕ, zero, suc}
 use Rattle.fixpoint.specs.Values.{Values}
 use Rattle.fixpoint.specs.Lawful.{Lawful, Monotone, Bounded, MonotoneQuery, cons⊑, Range, Between}
 use Rattle.fixpoint.specs.Nested.{nested, extreme}
-use Rattle.fixpoint.proofs.Order.{eq-le, below-refl}
+use Rattle.fixpoint.proofs.Order.{eq-le, below-refl, between-bounded}
 use Rattle.fixpoint.proofs.Dual.{dual, dual-lawful, dual-between, range-dual}
 use Rattle.fixpoint.proofs.Nested.{nested-laws}
 
@@ -48,7 +48,7 @@ module _ (𝓥 : Values) (𝓛 : Lawful 𝓥) (v : 𝓥 .C → 𝓥 .C → 𝓥 
   mono-at {a} {b} r x y = L .mono r r (refl⊑ a) (refl⊑ b)
 
   bounded-at : {a b : C} → Range 𝓥 a b → Bounded 𝓥 (v a b)
-  bounded-at r x = let w = L .between x r in (trans⊑ (r .low) (w .above), trans⊑ (w .below) (r .high))
+  bounded-at r x = between-bounded 𝓥 𝓛 r (L .between x r)
 
   narrow-least : (a b c e : C) → Inside 𝓥 a b c e (lfp (v a b)) → lfp (v c e) ≡ lfp (v a b)
   narrow-least a b c e i =

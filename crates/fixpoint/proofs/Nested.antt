@@ -8,7 +8,7 @@ use Prim.Native.Nat.{ℕ, zero, suc}
 use Rattle.fixpoint.specs.Values.{Values}
 use Rattle.fixpoint.specs.Lawful.{Lawful, Monotone, Bounded, MonotoneQuery, Below, cons⊑, Range, Between}
 use Rattle.fixpoint.specs.Nested.{nested, extreme}
-use Rattle.fixpoint.proofs.Order.{eq-le, below-refl}
+use Rattle.fixpoint.proofs.Order.{eq-le, below-refl, between-bounded}
 use Rattle.fixpoint.proofs.Dual.{dual, dual-lawful, dual-monotone, dual-bounded}
 
 -- a larger function has a larger least fixed point
@@ -18,7 +18,7 @@ lfp-mono 𝓥 𝓛 g h mg bg mh bh le = 𝓛 .lfp-least g mg bg (𝓥 .lfp h) (�
 
 module _ (𝓥 : Values) (𝓛 : Lawful 𝓥) where
   open Values 𝓥 using (C, _⊑_)
-  open Lawful 𝓛 using (refl⊑, trans⊑)
+  open Lawful 𝓛 using (refl⊑)
 
   infix 40 _⊑_
   pub extreme-fixed : (s : Bool) (g : C → C) → Monotone 𝓥 g → Bounded 𝓥 g → g (extreme 𝓥 s g) ≡ extreme 𝓥 s g
@@ -45,7 +45,7 @@ module _ (𝓥 : Values) (𝓛 : Lawful 𝓥) where
       mono-at x y h = L .mono r r (cons⊑ h (below-refl 𝓥 𝓛 xs)) (refl⊑ a) (refl⊑ b)
 
       bounded-at : Bounded 𝓥 (λ x. val k (x ∷ xs) a b)
-      bounded-at x = let w = L .between (x ∷ xs) r in (trans⊑ (r .low) (w .above), trans⊑ (w .below) (r .high))
+      bounded-at x = between-bounded 𝓥 𝓛 r (L .between (x ∷ xs) r)
 
     pub nested-laws : (k : ℕ) → NestedLaws k
     unfolding nested

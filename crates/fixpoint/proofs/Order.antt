@@ -1,4 +1,5 @@
--- What follows from the laws of values alone: equal values are below each other, ranges narrow, and the rank is monotone.
+-- What follows from the laws of values alone: equal values are below each other, ranges narrow, what lies in a range is bounded,
+-- and the rank is monotone.
 -- Assumes nothing.
 use mathlib.Core.List.{List, [], _∷_}
 use mathlib.Core.Path.{_≡_, ap, subst}
@@ -24,6 +25,9 @@ module _ (𝓥 : Values) (𝓛 : Lawful 𝓥) where
 
   pub range-down : {a x b : C} → Range 𝓥 a b → Between 𝓥 a x b → Range 𝓥 a x
   range-down r w = record { low = r .low; mid = w .above; high = trans⊑ (w .below) (r .high) }
+
+  pub between-bounded : {a x b : C} → Range 𝓥 a b → Between 𝓥 a x b → (bot ⊑ x) × (x ⊑ top)
+  between-bounded r w = (trans⊑ (r .low) (w .above), trans⊑ (w .below) (r .high))
 
   pub rank-mono : {x y : C} → bot ⊑ x → x ⊑ y → y ⊑ top → rank x ≤ rank y
   rank-mono {x} {y} l m h = go (decide x y)

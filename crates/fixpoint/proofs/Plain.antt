@@ -10,7 +10,7 @@ use Rattle.fixpoint.specs.Values.{Values}
 use Rattle.fixpoint.specs.Lawful.{Lawful, Monotone, Bounded, MonotoneQuery, Range, Between}
 use Rattle.fixpoint.specs.Nested.{nested, extreme}
 use Rattle.fixpoint.specs.Plain.{Run, then-rounds, settle, plain}
-use Rattle.fixpoint.proofs.Order.{eq-le, rank-mono}
+use Rattle.fixpoint.proofs.Order.{eq-le, between-bounded, rank-mono}
 use Rattle.fixpoint.proofs.Dual.{dual, dual-lawful, dual-monotone, dual-bounded}
 use Rattle.fixpoint.proofs.Nested.{nested-laws, level-mono}
 
@@ -92,7 +92,7 @@ module _ (𝓥 : Values) (𝓛 : Lawful 𝓥) (same : 𝓥 .C → 𝓥 .C → Bo
   infix 40 _⊑_
   module _ (g : C → C) (g-mono : Monotone 𝓥 g) (g-between : (x : C) → Between 𝓥 a (g x) b) where
     g-bounded : Bounded 𝓥 g
-    g-bounded x = (trans⊑ (r .low) (g-between x .above), trans⊑ (g-between x .below) (r .high))
+    g-bounded x = between-bounded 𝓥 𝓛 r (g-between x)
 
     from-low : (m : ℕ) → n < m → Rising 𝓥 g m a
     from-low m h =

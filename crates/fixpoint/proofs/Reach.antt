@@ -14,7 +14,7 @@ use Rattle.fixpoint.specs.Lawful.{Lawful, MonotoneQuery, cons⊑, Range,
 use Rattle.fixpoint.specs.Levels.{least-levels, greatest-levels}
 use Rattle.fixpoint.specs.Nested.{nested, extreme}
 use Rattle.fixpoint.specs.Restricted.{restricted, level, rise, fall}
-use Rattle.fixpoint.proofs.Order.{eq-le, below-refl, range-up, range-down, rank-mono}
+use Rattle.fixpoint.proofs.Order.{eq-le, below-refl, range-up, range-down, between-bounded, rank-mono}
 use Rattle.fixpoint.proofs.Levels.{least-at-least, least-at-greatest}
 use Rattle.fixpoint.proofs.Nested.{nested-laws, level-mono, level-bounded, level-fixed}
 use Rattle.fixpoint.proofs.Narrow.{narrow}
@@ -192,7 +192,8 @@ module _ (𝓥 : Values) (𝓛 : Lawful 𝓥) (sign : ℕ → Bool) (f : List (�
         let rd : Range 𝓥 a d = range-down 𝓥 𝓛 r w in
         let F : Found k xs a d = key k xs a d rd q (own k xs r) in
         let low : rank bot ≤ rank a = rank-mono 𝓥 𝓛 (refl⊑ bot) (r .low) (trans⊑ (r .mid) (r .high)) in
-        let high : rank d ≤ rank top = rank-mono 𝓥 𝓛 (trans⊑ (r .low) (w .above)) (trans⊑ (w .below) (r .high)) (refl⊑ top) in
+        let bounds = between-bounded 𝓥 𝓛 r w in
+        let high : rank d ≤ rank top = rank-mono 𝓥 𝓛 (bounds .0) (bounds .1) (refl⊑ top) in
         trans⊑ (F .reaches v)
         (trans⊑ (res-wider k xs (F .tree) v rd r (w .below))
         (fit-law 𝓥 𝓛 sign f f-mono k xs a b (F .tree) u v r (univ (F .tree) (F .is-tree) (omega (arith, F .small)))))
