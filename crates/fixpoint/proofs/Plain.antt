@@ -11,7 +11,7 @@ use Rattle.fixpoint.specs.Lawful.{Lawful, Monotone, Bounded, MonotoneQue
 use Rattle.fixpoint.specs.Nested.{nested, extreme}
 use Rattle.fixpoint.specs.Plain.{Run, then-rounds, settle, plain}
 use Rattle.fixpoint.proofs.Order.{eq-le, between-bounded, rank-mono}
-use Rattle.fixpoint.proofs.Dual.{dual, dual-lawful, dual-monotone, dual-bounded}
+use Rattle.fixpoint.proofs.Dual.{dual, dual-lawful, dual-monotone, dual-range, dual-between}
 use Rattle.fixpoint.proofs.Nested.{nested-laws, level-mono}
 
 -- a test that tells equal values
@@ -40,15 +40,20 @@ record Rising (𝓥 : Values) (g : 𝓥 .C → 𝓥 .C) (m : ℕ) (x : 𝓥 .C) 
   rises : 𝓥 ._⊑_ x (g x)
   room : 𝓥 .rank (𝓥 .top) < 𝓥 .rank x + m
 
-module _ (𝓥 : Values) (𝓛 : Lawful 𝓥) (same : 𝓥 .C → 𝓥 .C → Bool) (tells : Tells same)
-    (g : 𝓥 .C → 𝓥 .C) (g-mono : Monotone 𝓥 g) (g-bounded : Bounded 𝓥 g) (round : 𝓥 .C → Run (𝓥 .C)) (round-value : (x : 𝓥 .C) → round x .value ≡ g x) where
+-- one least level, from its start
+module _ (𝓥 : Values) (𝓛 : Lawful 𝓥) (same : 𝓥 .C → 𝓥 .C → Bool) (tells : Tells same) (n : ℕ) (span : 𝓥 .rank (𝓥 .top) ≤ 𝓥 .rank (𝓥 .bot) + n)
+    (a b : 𝓥 .C) (range : Range 𝓥 a b) (g : 𝓥 .C → 𝓥 .C) (g-mono : Monotone 𝓥 g) (g-between : (x : 𝓥 .C) → Between 𝓥 a (g x) b)
+    (round : 𝓥 .C → Run (𝓥 .C)) (round-value : (x : 𝓥 .C) → round x .value ≡ g x) where
   open Values 𝓥 using (C, _⊑_, bot, top, lfp, rank)
-  open Lawful 𝓛 using (trans⊑, antisym⊑)
+  open Lawful 𝓛 using (refl⊑, trans⊑, antisym⊑)
 
   infix 40 _⊑_
+  g-bounded : Bounded 𝓥 g
+  g-bounded x = between-bounded 𝓥 𝓛 range (g-between x)
+
   no-room : {x : C} → Rising 𝓥 g zero x → ⊥
   no-room {x} r =
-      let p : rank x ≤ rank top = rank-mono 𝓥 𝓛 (r .low) (trans⊑ (r .rises) (g-bounded x .1)) (𝓛 .refl⊑ top) in
+      let p : rank x ≤ rank top = rank-mono 𝓥 𝓛 (r .low) (trans⊑ (r .rises) (g-bounded x .1)) (refl⊑ top) in
       omega (arith, r .room)
 
   -- a round that changes something goes up
@@ -83,44 +88,33 @@ module _ (𝓥 : Values) (𝓛 : Lawful 𝓥) (same : 𝓥 .C → 𝓥 .C → Bo
       go true e ih = rw e
       go false e ih = rw (e, ih (next r e) (next r′ e))
 
--- one level, by its sign, from its own start
+  from-low : (m : ℕ) → n < m → Rising 𝓥 g m a
+  from-low m h =
+      let low : rank bot ≤ rank a = rank-mono 𝓥 𝓛 (refl⊑ bot) (range .low) (trans⊑ (range .mid) (range .high)) in
+      record { low = range .low; rises = g-between a .above; room = omega arith }
+
+  least-value : (m : ℕ) → n < m → settle same round m a .value ≡ lfp g
+  least-value m h = settle-value m a (from-low m h) (trans⊑ (g-between (lfp g) .above) (eq-le 𝓥 𝓛 (𝓛 .lfp-fixed g g-mono g-bounded)))
+
+  least-bound : (m m′ : ℕ) → n < m → n < m′ → settle same round m a ≡ settle same round m′ a
+  least-bound m m′ h h′ = settle-bound m m′ a (from-low m h) (from-low m′ h′)
+
+-- one level, by its sign, from its own start: a greatest level is a least one upside down
 module _ (𝓥 : Values) (𝓛 : Lawful 𝓥) (same : 𝓥 .C → 𝓥 .C → Bool) (tells : Tells same) (n : ℕ) (span : 𝓥 .rank (𝓥 .top) ≤ 𝓥 .rank (𝓥 .bot) + n)
     (a b : 𝓥 .C) (r : Range 𝓥 a b) where
-  open Values 𝓥 using (C, _⊑_, bot, top, lfp, gfp, rank)
-  open Lawful 𝓛 using (refl⊑, trans⊑)
+  open Values 𝓥 using (C)
 
-  infix 40 _⊑_
-  module _ (g : C → C) (g-mono : Monotone 𝓥 g) (g-between : (x : C) → Between 𝓥 a (g x) b) where
-    g-bounded : Bounded 𝓥 g
-    g-bounded x = between-bounded 𝓥 𝓛 r (g-between x)
+  module _ (g : C → C) (g-mono : Monotone 𝓥 g) (g-between : (x : C) → Between 𝓥 a (g x) b) (round : C → Run C) (round-value : (x : C) → round x .value ≡ g x) where
+    level-value : (s : Bool) (m : ℕ) → n < m → settle same round m (cond s b a) .value ≡ extreme 𝓥 s g
+    unfolding extreme
+    level-value true =
+        least-value (dual 𝓥) (dual-lawful 𝓥 𝓛) same tells n (omega arith) b a (dual-range 𝓥 r) g (dual-monotone 𝓥 g-mono) (λ x. dual-between 𝓥 (g-between x)) round round-value
+    level-value false = least-value 𝓥 𝓛 same tells n span a b r g g-mono g-between round round-value
 
-    from-low : (m : ℕ) → n < m → Rising 𝓥 g m a
-    from-low m h =
-        let low : rank bot ≤ rank a = rank-mono 𝓥 𝓛 (refl⊑ bot) (r .low) (trans⊑ (r .mid) (r .high)) in
-        record { low = r .low; rises = g-between a .above; room = omega arith }
-
-    from-high : (m : ℕ) → n < m → Rising (dual 𝓥) g m b
-    from-high m h =
-        let high : rank b ≤ rank top = rank-mono 𝓥 𝓛 (trans⊑ (r .low) (r .mid)) (r .high) (refl⊑ top) in
-        record { low = r .high; rises = g-between b .below; room = omega arith }
-
-    low-lfp : a ⊑ lfp g
-    low-lfp = trans⊑ (g-between (lfp g) .above) (eq-le 𝓥 𝓛 (𝓛 .lfp-fixed g g-mono g-bounded))
-
-    gfp-high : gfp g ⊑ b
-    gfp-high = trans⊑ (eq-le 𝓥 𝓛 (sym (𝓛 .gfp-fixed g g-mono g-bounded))) (g-between (gfp g) .below)
-
-    module _ (round : C → Run C) (round-value : (x : C) → round x .value ≡ g x) where
-      level-value : (s : Bool) (m : ℕ) → n < m → settle same round m (cond s b a) .value ≡ extreme 𝓥 s g
-      unfolding extreme
-      level-value true m h =
-          settle-value (dual 𝓥) (dual-lawful 𝓥 𝓛) same tells g (dual-monotone 𝓥 g-mono) (dual-bounded 𝓥 g-bounded) round round-value m b (from-high m h) gfp-high
-      level-value false m h = settle-value 𝓥 𝓛 same tells g g-mono g-bounded round round-value m a (from-low m h) low-lfp
-
-      level-bound : (s : Bool) (m m′ : ℕ) → n < m → n < m′ → settle same round m (cond s b a) ≡ settle same round m′ (cond s b a)
-      level-bound true m m′ h h′ =
-          settle-bound (dual 𝓥) (dual-lawful 𝓥 𝓛) same tells g (dual-monotone 𝓥 g-mono) (dual-bounded 𝓥 g-bounded) round round-value m m′ b (from-high m h) (from-high m′ h′)
-      level-bound false m m′ h h′ = settle-bound 𝓥 𝓛 same tells g g-mono g-bounded round round-value m m′ a (from-low m h) (from-low m′ h′)
+    level-bound : (s : Bool) (m m′ : ℕ) → n < m → n < m′ → settle same round m (cond s b a) ≡ settle same round m′ (cond s b a)
+    level-bound true =
+        least-bound (dual 𝓥) (dual-lawful 𝓥 𝓛) same tells n (omega arith) b a (dual-range 𝓥 r) g (dual-monotone 𝓥 g-mono) (λ x. dual-between 𝓥 (g-between x)) round round-value
+    level-bound false = least-bound 𝓥 𝓛 same tells n span a b r g g-mono g-between round round-value
 
   module _ (sign : ℕ → Bool) (f : List C → C) (f-mono : MonotoneQuery 𝓥 f) where
     mono-at : (k : ℕ) (xs : List C) → Monotone 𝓥 (λ x. nested 𝓥 sign f k (x ∷ xs) a b)
