@@ -25,9 +25,8 @@ dual 𝓥 = record {
 }
 
 module _ (𝓥 : Values) where
-  open Values 𝓥 using (C, _⊑_, top, rank)
+  open Values 𝓥 using (C)
 
-  infix 40 _⊑_
   pub dual-monotone : {g : C → C} → Monotone 𝓥 g → Monotone (dual 𝓥) g
   dual-monotone m x y h = m y x h
 
@@ -54,6 +53,10 @@ module _ (𝓥 : Values) where
   dual-below nil⊑ = nil⊑
   dual-below (cons⊑ h p) = cons⊑ h (dual-below p)
 
+-- the laws, upside down
+module _ (𝓥 : Values) where
+  open Values 𝓥 using (top, rank)
+
   pub dual-lawful : Lawful 𝓥 → Lawful (dual 𝓥)
   dual-lawful 𝓛 = record {
     refl⊑ = 𝓛 .refl⊑;
@@ -70,10 +73,10 @@ module _ (𝓥 : Values) where
     step-high = λ x p. 𝓛 .step-low x p;
     step-mono = λ p q s. 𝓛 .step-mono q p s;
     step-inner = λ x p q s t. 𝓛 .step-inner x t s q p;
-    lfp-fixed = λ g m b. 𝓛 .gfp-fixed g (λ x y h. m y x h) (λ x. (b x .1, b x .0));
-    lfp-least = λ g m b y h. 𝓛 .gfp-greatest g (λ x z k. m z x k) (λ x. (b x .1, b x .0)) y h;
-    gfp-fixed = λ g m b. 𝓛 .lfp-fixed g (λ x y h. m y x h) (λ x. (b x .1, b x .0));
-    gfp-greatest = λ g m b y h. 𝓛 .lfp-least g (λ x z k. m z x k) (λ x. (b x .1, b x .0)) y h;
+    lfp-fixed = λ g m b. 𝓛 .gfp-fixed g (dual-monotone (dual 𝓥) m) (dual-bounded (dual 𝓥) b);
+    lfp-least = λ g m b. 𝓛 .gfp-greatest g (dual-monotone (dual 𝓥) m) (dual-bounded (dual 𝓥) b);
+    gfp-fixed = λ g m b. 𝓛 .lfp-fixed g (dual-monotone (dual 𝓥) m) (dual-bounded (dual 𝓥) b);
+    gfp-greatest = λ g m b. 𝓛 .lfp-least g (dual-monotone (dual 𝓥) m) (dual-bounded (dual 𝓥) b);
     rank-strict = λ {a} {b} l m h ne.
         let p : rank b < rank a = 𝓛 .rank-strict h m l (λ e. ne (sym e)) in
         let q : rank a ≤ rank top = rank-mono 𝓥 𝓛 (𝓛 .trans⊑ h m) l (𝓛 .refl⊑ top) in

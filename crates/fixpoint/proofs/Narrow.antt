@@ -9,7 +9,7 @@ use Rattle.fixpoint.specs.Values.{Values}
 use Rattle.fixpoint.specs.Lawful.{Lawful, Monotone, Bounded, MonotoneQuery, cons⊑, Range, Between}
 use Rattle.fixpoint.specs.Nested.{nested, extreme}
 use Rattle.fixpoint.proofs.Order.{eq-le, below-refl, between-bounded}
-use Rattle.fixpoint.proofs.Dual.{dual, dual-lawful, dual-between, range-dual}
+use Rattle.fixpoint.proofs.Dual.{dual, dual-lawful, dual-between, dual-range, range-dual}
 use Rattle.fixpoint.proofs.Nested.{nested-laws}
 
 -- bounds c, e inside a, b that still enclose the value v
@@ -24,13 +24,7 @@ inside-dual : (𝓥 : Values) {a b c e v : 𝓥 .C} → Inside (dual 𝓥) b a e
 inside-dual 𝓥 i = record { outer = range-dual 𝓥 (i .outer); ac = i .eb; cv = i .ve; ve = i .cv; eb = i .ac }
 
 dual-inside : (𝓥 : Values) {a b c e v : 𝓥 .C} → Inside 𝓥 a b c e v → Inside (dual 𝓥) b a e c v
-dual-inside 𝓥 i = record {
-  outer = record { low = i .outer .high; mid = i .outer .mid; high = i .outer .low };
-  ac = i .eb;
-  cv = i .ve;
-  ve = i .cv;
-  eb = i .ac;
-}
+dual-inside 𝓥 i = record { outer = dual-range 𝓥 (i .outer); ac = i .eb; cv = i .ve; ve = i .cv; eb = i .ac }
 
 -- what one level is asked: `v a b x` is the value of the levels below, between a and b, at the argument x
 record Level (𝓥 : Values) (v : 𝓥 .C → 𝓥 .C → 𝓥 .C → 𝓥 .C) : Type 0 where
