@@ -7,6 +7,7 @@ use native.Mathlib.Numerals.{add-one}
 use native.Mathlib.Omega.{arith}
 use lib.ListN.{length, getD, take, drop, length-take, length-drop}
 use lib.Seq.{split-at, take-all}
+use Rattle.lists.proofs.Front.{rest-whole}
 use Rattle.trees.specs.Tree.{IsTree, leaf, gap, children}
 use Rattle.trees.proofs.Children.{part-alone, part-first}
 use Rattle.routes.specs.Parts.{Lent}
@@ -19,11 +20,8 @@ NoneBefore gaps h r = (i : ℕ) → i < r → getD gaps i 0 ≡ h → ⊥
 abbrev pub after : List ℕ → ℕ → List ℕ
 after gaps r = take (length gaps - (r + 1)) (drop (r + 1) gaps)
 
-after-drop : (gaps : List ℕ) (r : ℕ) → after gaps r ≡ drop (suc r) gaps
-after-drop gaps r = rw (add-one r) (take-all (length gaps - suc r) (drop (suc r) gaps) (omega (arith, length-drop (suc r) gaps)))
-
 pub after-shorter : (gaps : List ℕ) (r : ℕ) → r < length gaps → length (after gaps r) < length gaps
-after-shorter gaps r l = rw (after-drop gaps r, length-drop) (omega arith)
+after-shorter gaps r l = rw (rest-whole gaps (r + 1), length-drop) (omega arith)
 
 -- parts of trees
 
@@ -51,8 +49,8 @@ module _ {h hu : ℕ} (u : List ℕ) (cut : ℕ) (suc-h : hu ≡ suc h) (lent : 
 
   pub after-lent : Lent hu (after u cut)
   after-lent =
-      rw (after-drop u cut)
-      (record { tree = drop-tree (suc cut) (lent .tree); few = rw length-drop (omega (arith, lent .few)) })
+      rw (rest-whole u (cut + 1))
+      (record { tree = drop-tree (cut + 1) (lent .tree); few = rw length-drop (omega (arith, lent .few)) })
 
   pub cut-none : cut ≡ length u → children hu u ≡ take cut u ∷ []
   cut-none e =
@@ -60,5 +58,5 @@ module _ {h hu : ℕ} (u : List ℕ) (cut : ℕ) (suc-h : hu ≡ suc h) (lent : 
 
   pub cut-first : cut < length u → getD u cut 0 ≡ hu → children hu u ≡ take cut u ∷ children hu (after u cut)
   cut-first l e =
-      rw (after-drop u cut, suc-h)
+      rw (rest-whole u (cut + 1), add-one cut, suc-h)
       (ap (children (suc h)) (split-at u cut 0 l ∙ rw (e, suc-h)) ∙ part-first h (take cut u) (drop (suc cut) u) front)
