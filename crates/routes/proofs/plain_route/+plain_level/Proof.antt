@@ -36,6 +36,10 @@ plain-level-at t = and 2 plain-level-kinds.ps (is 2 plain-level-kinds.ps μ-plai
 abbrev plain-level-below : ℕ → In 2 plain-level-kinds.ps
 plain-level-below t = and 2 plain-level-kinds.ps (falls 2 plain-level-kinds.ps _<_ μ-plain-level t) plain-level.Pre
 
+-- what it may call
+abbrev calls : ℕ → lts.Claims
+calls t = (last-level-reads.Asked, last-level-reads.Learnt, is-greatest-reads.Asked, is-greatest-reads.Learnt, plain-level-below t, plain-level.Post)
+
 -- one round of the level above `below` levels, as a function of its argument
 abbrev roundOf : ℕ → List ℕ → Model → ℕ → ℕ → ℕ → List ℕ → ℕ → Run ℕ
 roundOf rounds file m a b below xs x = plainFrom rounds (systemIn file m) a b below (x ∷ above m (suc below) xs)
@@ -55,29 +59,29 @@ abbrev μ : lts.MeasureT-loop
 
 module _ (t : ℕ) where
   -- the function's arguments as a round of its level, and that every round makes a query
-  abbrev round-at : lts.Start (last-level-reads.Asked, last-level-reads.Learnt, is-greatest-reads.Asked, is-greatest-reads.Learnt, plain-level-below t, plain-level.Post) (plain-level-at t) plain-level.Post Inv μ → ℕ → ℕ → Run ℕ
+  abbrev round-at : lts.Start (calls t) (plain-level-at t) plain-level.Post Inv μ → ℕ → ℕ → Run ℕ
   round-at start rounds = roundOf rounds (now (start .args .file)) (start .args .m) (start .args .a) (start .args .b) (start .args .k - 1) (now (start .args .xs))
 
-  positive : (start : lts.Start (last-level-reads.Asked, last-level-reads.Learnt, is-greatest-reads.Asked, is-greatest-reads.Learnt, plain-level-below t, plain-level.Post) (plain-level-at t) plain-level.Post Inv μ) (rounds : ℕ) → start .args .left < rounds → (x : ℕ) → 1 ≤ round-at start rounds x .queries
+  positive : (start : lts.Start (calls t) (plain-level-at t) plain-level.Post Inv μ) (rounds : ℕ) → start .args .left < rounds → (x : ℕ) → 1 ≤ round-at start rounds x .queries
   positive start rounds h x = plain-positive _ _ rounds _ _ _ _ (omega arith) _ _
 
-  last-level-requires : lts.Need-last-level-requires (last-level-reads.Asked, last-level-reads.Learnt, is-greatest-reads.Asked, is-greatest-reads.Learnt, plain-level-below t, plain-level.Post) (plain-level-at t) plain-level.Post Inv μ
+  last-level-requires : lts.Need-last-level-requires (calls t) (plain-level-at t) plain-level.Post Inv μ
   last-level-requires c κs = search needs
 
-  returns : lts.Need-returns (last-level-reads.Asked, last-level-reads.Learnt, is-greatest-reads.Asked, is-greatest-reads.Learnt, plain-level-below t, plain-level.Post) (plain-level-at t) plain-level.Post Inv μ
+  returns : lts.Need-returns (calls t) (plain-level-at t) plain-level.Post Inv μ
   returns c rounds h =
       let start = c .before .before .before in
       c .last-level .ensures rounds
       ∙ ap (λ (k : ℕ). under (start .args .left) (plainFrom rounds (systemIn (now (start .args .file)) (start .args .m)) (start .args .a) (start .args .b) k (above (start .args .m) k (now (start .args .xs))))) (sym (c .before .if1 .taken))
 
-  sub-below : lts.Need-sub-below (last-level-reads.Asked, last-level-reads.Learnt, is-greatest-reads.Asked, is-greatest-reads.Learnt, plain-level-below t, plain-level.Post) (plain-level-at t) plain-level.Post Inv μ
+  sub-below : lts.Need-sub-below (calls t) (plain-level-at t) plain-level.Post Inv μ
   sub-below c = search needs
 
-  is-greatest-requires : lts.Need-is-greatest-requires (last-level-reads.Asked, last-level-reads.Learnt, is-greatest-reads.Asked, is-greatest-reads.Learnt, plain-level-below t, plain-level.Post) (plain-level-at t) plain-level.Post Inv μ
+  is-greatest-requires : lts.Need-is-greatest-requires (calls t) (plain-level-at t) plain-level.Post Inv μ
   is-greatest-requires c κs = search needs
 
   -- the value that the level starts from
-  begins : (c : lts.Joined2 (last-level-reads.Asked, last-level-reads.Learnt, is-greatest-reads.Asked, is-greatest-reads.Learnt, plain-level-below t, plain-level.Post) (plain-level-at t) plain-level.Post Inv μ) →
+  begins : (c : lts.Joined2 (calls t) (plain-level-at t) plain-level.Post Inv μ) →
       let start = c .before .before .before .before .before in
       c .if2 .x ≡ cond (sign (systemIn (now (start .args .file)) (start .args .m)) (start .args .k - 1)) (start .args .b) (start .args .a)
   begins c =
@@ -88,7 +92,7 @@ module _ (t : ℕ) where
       (c .if2 .came)
 
   -- what a round gives, for every bound on the rounds
-  outcome : (c : lts.After-plain-level (last-level-reads.Asked, last-level-reads.Learnt, is-greatest-reads.Asked, is-greatest-reads.Learnt, plain-level-below t, plain-level.Post) (plain-level-at t) plain-level.Post Inv μ) →
+  outcome : (c : lts.After-plain-level (calls t) (plain-level-at t) plain-level.Post Inv μ) →
       let start = c .before .before .before .before .before .before .before .before in
       let l = c .before .before .loop in
       (rounds : ℕ) → start .args .left < rounds
@@ -102,7 +106,7 @@ module _ (t : ℕ) where
       ∙ ap (λ (ys : List ℕ). under (l .rest) (plainFrom rounds (systemIn (now (start .args .file)) (start .args .m)) (start .args .a) (start .args .b) below ys))
       (above-set (start .args .m) (l .ys) below (l .x) inside (l .inv .long) ∙ ap (λ (ys : List ℕ). l .x ∷ ys) (l .inv .kept))
 
-  loop-holds : lts.Need-loop-holds (last-level-reads.Asked, last-level-reads.Learnt, is-greatest-reads.Asked, is-greatest-reads.Learnt, plain-level-below t, plain-level.Post) (plain-level-at t) plain-level.Post Inv μ
+  loop-holds : lts.Need-loop-holds (calls t) (plain-level-at t) plain-level.Post Inv μ
   unfolding plain
   loop-holds c =
       let start = c .before .before .before .before .before in
@@ -114,36 +118,36 @@ module _ (t : ℕ) where
         ahead = λ rounds h. record { fuel = rounds; more = h; same = rw (begins c) };
       }
 
-  mul-ys : lts.Need-mul-ys (last-level-reads.Asked, last-level-reads.Learnt, is-greatest-reads.Asked, is-greatest-reads.Learnt, plain-level-below t, plain-level.Post) (plain-level-at t) plain-level.Post Inv μ
+  mul-ys : lts.Need-mul-ys (calls t) (plain-level-at t) plain-level.Post Inv μ
   mul-ys c = search needs
 
-  array-write-ys : lts.Need-array-write-ys (last-level-reads.Asked, last-level-reads.Learnt, is-greatest-reads.Asked, is-greatest-reads.Learnt, plain-level-below t, plain-level.Post) (plain-level-at t) plain-level.Post Inv μ
+  array-write-ys : lts.Need-array-write-ys (calls t) (plain-level-at t) plain-level.Post Inv μ
   array-write-ys c = search needs
 
-  plain-level-requires : lts.Need-plain-level-requires (last-level-reads.Asked, last-level-reads.Learnt, is-greatest-reads.Asked, is-greatest-reads.Learnt, plain-level-below t, plain-level.Post) (plain-level-at t) plain-level.Post Inv μ
+  plain-level-requires : lts.Need-plain-level-requires (calls t) (plain-level-at t) plain-level.Post Inv μ
   plain-level-requires c κs =
       let start = c .before .before .before .before .before .before .before in
       (omega (arith, start .pre .0, c .before .loop .inv .level), ((start .pre .1 .0 .0, simp length-set (c .before .loop .inv .long)), omega (arith, start .pre .1 .1)))
 
-  enum-known-round : lts.Need-enum-known-round (last-level-reads.Asked, last-level-reads.Learnt, is-greatest-reads.Asked, is-greatest-reads.Learnt, plain-level-below t, plain-level.Post) (plain-level-at t) plain-level.Post Inv μ
+  enum-known-round : lts.Need-enum-known-round (calls t) (plain-level-at t) plain-level.Post Inv μ
   enum-known-round c = search needs
 
-  enum-told : lts.Need-enum-told (last-level-reads.Asked, last-level-reads.Learnt, is-greatest-reads.Asked, is-greatest-reads.Learnt, plain-level-below t, plain-level.Post) (plain-level-at t) plain-level.Post Inv μ
+  enum-told : lts.Need-enum-told (calls t) (plain-level-at t) plain-level.Post Inv μ
   enum-told c = search needs
 
-  returns-2 : lts.Need-returns-2 (last-level-reads.Asked, last-level-reads.Learnt, is-greatest-reads.Asked, is-greatest-reads.Learnt, plain-level-below t, plain-level.Post) (plain-level-at t) plain-level.Post Inv μ
+  returns-2 : lts.Need-returns-2 (calls t) (plain-level-at t) plain-level.Post Inv μ
   returns-2 c rounds h =
       let start = c .before .before .before .before .before .before .before .before .before .before in
       let l = c .before .before .before .before .loop in
       sym (rw (l .inv .level) (round-spent (round-at start rounds) (l .inv .ahead rounds h) (sym (outcome (c .before .before) rounds h) ∙ c .enum-told .given .1)))
 
-  returns-3 : lts.Need-returns-3 (last-level-reads.Asked, last-level-reads.Learnt, is-greatest-reads.Asked, is-greatest-reads.Learnt, plain-level-below t, plain-level.Post) (plain-level-at t) plain-level.Post Inv μ
+  returns-3 : lts.Need-returns-3 (calls t) (plain-level-at t) plain-level.Post Inv μ
   returns-3 c rounds h =
       let start = c .before .before .before .before .before .before .before .before .before .before .before .before in
       let l = c .before .before .before .before .before .before .loop in
       sym (rw (l .inv .level) (round-same (round-at start rounds) (l .inv .ahead rounds h) _ _ (sym (outcome (c .before .before .before .before) rounds h) ∙ c .before .before .round .given .1) (c .if3 .taken)))
 
-  loop-less : lts.Need-loop-less (last-level-reads.Asked, last-level-reads.Learnt, is-greatest-reads.Asked, is-greatest-reads.Learnt, plain-level-below t, plain-level.Post) (plain-level-at t) plain-level.Post Inv μ
+  loop-less : lts.Need-loop-less (calls t) (plain-level-at t) plain-level.Post Inv μ
   loop-less c =
       let start = c .before .before .before .before .before .before .before .before .before .before .before .before in
       let l = c .before .before .before .before .before .before .loop in
@@ -151,7 +155,7 @@ module _ (t : ℕ) where
       round-less (round-at start (suc (start .args .left))) (l .x) (l .rest) (positive start (suc (start .args .left)) more (l .x)) _ _
       (sym (outcome (c .before .before .before .before) (suc (start .args .left)) more) ∙ c .before .before .round .given .1)
 
-  loop-again : lts.Need-loop-again (last-level-reads.Asked, last-level-reads.Learnt, is-greatest-reads.Asked, is-greatest-reads.Learnt, plain-level-below t, plain-level.Post) (plain-level-at t) plain-level.Post Inv μ
+  loop-again : lts.Need-loop-again (calls t) (plain-level-at t) plain-level.Post Inv μ
   loop-again c =
       let start = c .before .before .before .before .before .before .before .before .before .before .before .before in
       let l = c .before .before .before .before .before .before .loop in
@@ -167,7 +171,7 @@ module _ (t : ℕ) where
       }
 
 pub +plain-level-spec : {M : Type 1} → statement M
-+plain-level-spec = close μ-plain-level λ t. lts.spec (last-level-reads.Asked, last-level-reads.Learnt, is-greatest-reads.Asked, is-greatest-reads.Learnt, plain-level-below t, plain-level.Post) (plain-level-at t) plain-level.Post Inv μ
++plain-level-spec = close μ-plain-level λ t. lts.spec (calls t) (plain-level-at t) plain-level.Post Inv μ
     (last-level-requires t)
     (returns t)
     (sub-below t)
