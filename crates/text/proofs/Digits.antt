@@ -7,8 +7,8 @@ use Prim.Native.Nat.{ℕ, zero, suc, _+_, _/_, _%_, _≤_}
 use native.Mathlib.Nat.{add-zero}
 use native.Mathlib.Omega.{arith}
 use lib.Dec.{ltb}
-use lib.ListN.{length, set, take, drop, length-append, length-drop, length-set, take-append-drop}
-use lib.Seq.{length-take-le, take-at, drop-append-add, drop-drop}
+use lib.ListN.{length, set, take, drop, length-append, length-set, take-append-drop}
+use lib.Seq.{take-length, drop-drop, paste, length-paste, take-paste, drop-paste}
 use Rattle.lists.proofs.Front.{back-store}
 use Rattle.text.specs.Text.{digit, digits, places, decimal, hex, pasted, Puts}
 
@@ -17,34 +17,23 @@ unfolding digits
 digits-length base zero x = refl
 digits-length base (suc k) x = omega (arith, length-append (digits base k (x / base)) (digit (x % base) ∷ []), digits-length base k (x / base))
 
-module _ (at : ℕ) (s l : List ℕ) (h : at ≤ length l) where
-  -- what stands in front of the rest once s is put
-  front : List ℕ
-  front = take at l ++ s
-
-  front-length : length front ≡ at + length s
-  unfolding front
-  front-length = omega (arith, length-append (take at l) s, length-take-le at l h)
-
-  pasted-front : pasted at s l ≡ front ++ drop (at + length s) l
-  unfolding front
-  pasted-front = sym (append-assoc (take at l) s (drop (at + length s) l))
+module _ (at : ℕ) (s l : List ℕ) where
+  -- a text is put as a copy puts all of it
+  pasted-copy : pasted at s l ≡ paste l at s (length s)
+  pasted-copy = rw take-length (sym (append-assoc (take at l) s (drop (at + length s) l)))
 
   -- a text, and behind it another
-  pub pasted-twice : (t : List ℕ) → pasted (at + length s) t (pasted at s l) ≡ pasted at (s ++ t) l
-  unfolding front
-  pasted-twice t =
+  pub pasted-twice : at ≤ length l → (t : List ℕ) → pasted (at + length s) t (pasted at s l) ≡ pasted at (s ++ t) l
+  pasted-twice h t =
       let end : at + length s + length t ≡ at + length (s ++ t) = omega (arith, length-append s t) in
-      ap (pasted (at + length s) t) pasted-front
-      ∙ ap₂ (λ (x y : List ℕ). x ++ (t ++ y)) (take-at front _ (at + length s) front-length)
-      (ap (λ (n : ℕ). drop (n + length t) (front ++ drop (at + length s) l)) (sym front-length)
-      ∙ drop-append-add front (drop (at + length s) l) (length t) ∙ drop-drop (length t) (at + length s) l ∙ ap (λ (n : ℕ). drop n l) end)
-      ∙ append-assoc (take at l) s (t ++ drop (at + length (s ++ t)) l)
-      ∙ ap (λ (x : List ℕ). take at l ++ x) (sym (append-assoc s t (drop (at + length (s ++ t)) l)))
+      ap (pasted (at + length s) t) pasted-copy
+      ∙ ap₂ (λ (x y : List ℕ). x ++ (t ++ y)) (take-paste l at s (length s) h (omega arith) ∙ ap (λ (x : List ℕ). take at l ++ x) (take-length s))
+      (sym (drop-drop (length t) (at + length s) (paste l at s (length s)))
+      ∙ ap (drop (length t)) (drop-paste l at s (length s) h (omega arith)) ∙ drop-drop (length t) (at + length s) l ∙ ap (λ (n : ℕ). drop n l) end)
+      ∙ simp append-assoc
 
   pub pasted-length : at + length s ≤ length l → length (pasted at s l) ≡ length l
-  pasted-length f =
-      ap length pasted-front ∙ omega (arith, length-append front (drop (at + length s) l), front-length, length-drop (at + length s) l)
+  pasted-length h = ap length pasted-copy ∙ length-paste l at s (length s) h (omega arith)
 
 -- Putting k digits from the last to the first: those to come, of what is left of the number, and those put already are all of them.
 pub record Filling (out₀ : List ℕ) (at base k x : ℕ) (out : List ℕ) (rest i : ℕ) : Type 0 where
@@ -108,7 +97,7 @@ puts-then {at} {r} {r′} {s} {t} {out} {mid} h p q =
 
 -- a buffer keeps its length
 pub puts-length : {at r : ℕ} {s out out′ : List ℕ} → at + length s ≤ length out → Puts at s out out′ r → length out′ ≡ length out
-puts-length {at} {r} {s} {out} h p = ap length (p .left) ∙ pasted-length at s out (omega arith) h
+puts-length {at} {r} {s} {out} h p = ap length (p .left) ∙ pasted-length at s out h
 
 -- a text at the start of a buffer lies within it
 pub puts-fits : {r : ℕ} {s out out′ : List ℕ} → Puts 0 s out out′ r → r ≤ length out′
