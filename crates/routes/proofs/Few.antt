@@ -1,16 +1,15 @@
 -- The queries of a level are few: their number fits 64 bits.
 -- Assumes nothing.
-use mathlib.Core.Bool.{Bool, true, false}
 use mathlib.Core.List.{List}
-use mathlib.Core.Path.{_≡_, refl, _∙_, ap}
+use mathlib.Core.Path.{_≡_, _∙_, ap}
 use Prim.Native.Nat.{ℕ, zero, suc, _+_, _*_, _/_, _^_, _≤_}
 use native.Mathlib.Nat.{le-refl, le-trans, mul-le-mul, mul-le-mul-right, add-mul, suc-mul, pow-succ', pow-le-pow-right}
 use native.Mathlib.Omega.{arith}
 use lib.Pow.{pow-add}
 use Rattle.trees.specs.Tree.{leaves, IsTree}
 use Rattle.trees.specs.Built.{built, leafCount}
-use Rattle.trees.proofs.Built.{leaf-zero, leaf-step, built-tree}
-use Rattle.fixpoint.specs.Levels.{least-levels, greatest-levels}
+use Rattle.trees.proofs.Built.{leaf-none, leaf-zero, leaf-step, built-tree}
+use Rattle.fixpoint.proofs.Levels.{levels-sum}
 use Rattle.fixpoint.proofs.Queries.{queries-product}
 use Rattle.model.specs.System.{System, sign}
 use Rattle.routes.specs.declared.step.Found.{Found}
@@ -22,10 +21,6 @@ pub record FewQueries (Given : Found → Type 0) (r : Found) : Type 0 where
   pub few : r .count ≤ 64 ^ 8
 
 -- L(n, h) is at most 64 ^ h for n up to 64
-
-leaf-none : (h : ℕ) → leafCount 0 h ≡ 0
-unfolding leafCount
-leaf-none h = refl
 
 -- with at most c leaves to each child, S(n, h + 1) has at most n * c; m only bounds n
 by-children : (h c : ℕ) → ((n : ℕ) → n ≤ 64 → leafCount n h ≤ c) → (m n : ℕ) → n ≤ m → n ≤ 64 → leafCount n (suc h) ≤ n * c
@@ -53,16 +48,6 @@ leaf-few zero zero q = omega (arith, leaf-none 0)
 leaf-few zero (suc n) q = omega (arith, leaf-zero n)
 leaf-few (suc h) n q =
     rw (pow-succ' 64 h) (le-trans (by-children h (64 ^ h) (leaf-few h) n n (le-refl n) q) (mul-le-mul-right (64 ^ h) q))
-
--- each level is least or greatest
-pub levels-sum : (sign : ℕ → Bool) (k : ℕ) → least-levels sign k + greatest-levels sign k ≡ k
-unfolding least-levels greatest-levels
-levels-sum sign zero = refl
-levels-sum sign (suc k) = by (sign k) refl (levels-sum sign k)
-  where
-    by : (s : Bool) → sign k ≡ s → least-levels sign k + greatest-levels sign k ≡ k → least-levels sign (suc k) + greatest-levels sign (suc k) ≡ suc k
-    by true e ih = rw e (omega arith)
-    by false e ih = rw e (omega arith)
 
 -- over built-in trees for up to 64 lines, at most 8 levels high together
 

@@ -74,6 +74,10 @@ total-kids (suc n) h = sym (of-some (λ ts. leaves (grow (suc h) ts) ≡ total t
 
 -- the leaf counts, by the same halves
 
+pub leaf-none : (h : ℕ) → leafCount 0 h ≡ 0
+unfolding leafCount
+leaf-none h = refl
+
 pub leaf-zero : (n : ℕ) → leafCount (suc n) 0 ≡ 1
 unfolding leafCount built
 leaf-zero n = refl

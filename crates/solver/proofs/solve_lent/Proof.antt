@@ -6,11 +6,11 @@ use mathlib.Core.Path.{_≡_, refl, sym, _∙_, ap, subst}
 use Prim.Native.Nat.{ℕ, _-_}
 use native.Mathlib.Omega.{arith}
 use denote.Ref.{now}
+use Rattle.fixpoint.proofs.Levels.{levels-sum}
 use Rattle.model.specs.System.{sign}
 use Rattle.model.specs.File.{decode}
 use Rattle.routes.specs.Parts.{systemIn}
 use Rattle.routes.specs.Routes.{leastLevels, greatestLevels}
-use Rattle.routes.proofs.Few.{levels-sum}
 use Rattle.solver.specs.Checks.{badTree}
 use Rattle.solver.specs.Says.{handedOn, LentSays}
 use Rattle.solver.specs.declared.Judged.{Judged}
