@@ -49,10 +49,6 @@ module _ (𝓥 : Values) where
   below-dual nil⊑ = nil⊑
   below-dual (cons⊑ h p) = cons⊑ h (below-dual p)
 
-  pub dual-below : {xs ys : List C} → Below 𝓥 xs ys → Below (dual 𝓥) ys xs
-  dual-below nil⊑ = nil⊑
-  dual-below (cons⊑ h p) = cons⊑ h (dual-below p)
-
 -- the laws, upside down
 module _ (𝓥 : Values) where
   open Values 𝓥 using (top, rank)

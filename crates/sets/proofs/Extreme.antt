@@ -112,9 +112,6 @@ module _ (n : ℕ) (g : ℕ → ℕ) (monotone : (x y : ℕ) → x ⊑ y → g x
   unfolding meet-closed
   least-least = extreme-below inward g (meet-closed n g) (λ m. refl) (2 ^ n) monotone bounded closed-cut
 
-  pub least-full : leastFixed n g ⊑ full n
-  least-full = rw least-fixed at (bounded (leastFixed n g))
-
   pub greatest-fixed : g (greatestFixed n g) ≡ greatestFixed n g
   unfolding join-open
   greatest-fixed = extreme-fixed outward g (join-open n g) (λ m. refl) (2 ^ n) (λ x y. monotone y x) (λ x. empty-least (g x)) open-cut
@@ -122,6 +119,3 @@ module _ (n : ℕ) (g : ℕ → ℕ) (monotone : (x y : ℕ) → x ⊑ y → g x
   pub greatest-greatest : (y : ℕ) → y ⊑ g y → y ⊑ greatestFixed n g
   unfolding join-open
   greatest-greatest = extreme-below outward g (join-open n g) (λ m. refl) (2 ^ n) (λ x y. monotone y x) (λ x. empty-least (g x)) open-cut
-
-  pub greatest-full : greatestFixed n g ⊑ full n
-  greatest-full = rw greatest-fixed at (bounded (greatestFixed n g))
