@@ -52,7 +52,7 @@ never h z = omega (arith, h .positive)
 module _ (file : List ℕ) (a b : ℕ) where
   -- judging plainly
   module _ (ceiling : ℕ) where
-    abbrev ceilingChecks : List Check
+    abbrev pub ceilingChecks : List Check
     ceilingChecks = 10 if ltb ceiling (plainRun (decode file) a b .queries) ∷ []
 
     pub plain-refused : {e : Refusal} → RefusedAs (builtNumber file a b) e → PlainSays file a b ceiling (judgement.Refused e)
