@@ -7,7 +7,7 @@ use Prim.Native.Nat.{ℕ, zero, suc, _-_, _≤_, _<_}
 use native.Mathlib.Omega.{arith}
 use Rattle.fixpoint.specs.Values.{Values}
 use Rattle.fixpoint.specs.Lawful.{Lawful, Monotone, Bounded, Below, nil⊑, cons⊑, Range, Between}
-use Rattle.fixpoint.specs.Levels.{least-levels, greatest-levels}
+use Rattle.fixpoint.specs.Levels.{leastAmong, greatestAmong}
 use Rattle.fixpoint.proofs.Order.{rank-mono}
 
 abbrev pub dual : Values → Values
@@ -83,19 +83,19 @@ module _ (𝓥 : Values) where
 abbrev pub flip : (ℕ → Bool) → ℕ → Bool
 flip sign k = not (sign k)
 
-pub least-flip : (sign : ℕ → Bool) (k : ℕ) → least-levels (flip sign) k ≡ greatest-levels sign k
-unfolding least-levels greatest-levels
+pub least-flip : (sign : ℕ → Bool) (k : ℕ) → leastAmong (flip sign) k ≡ greatestAmong sign k
+unfolding leastAmong greatestAmong
 least-flip sign zero = refl
-least-flip sign (suc k) = rw (least-flip sign k) (go (sign k) (greatest-levels sign k))
+least-flip sign (suc k) = rw (least-flip sign k) (go (sign k) (greatestAmong sign k))
   where
     go : (s : Bool) (m : ℕ) → cond (not s) m (suc m) ≡ cond s (suc m) m
     go true m = refl
     go false m = refl
 
-pub greatest-flip : (sign : ℕ → Bool) (k : ℕ) → greatest-levels (flip sign) k ≡ least-levels sign k
-unfolding least-levels greatest-levels
+pub greatest-flip : (sign : ℕ → Bool) (k : ℕ) → greatestAmong (flip sign) k ≡ leastAmong sign k
+unfolding leastAmong greatestAmong
 greatest-flip sign zero = refl
-greatest-flip sign (suc k) = rw (greatest-flip sign k) (go (sign k) (least-levels sign k))
+greatest-flip sign (suc k) = rw (greatest-flip sign k) (go (sign k) (leastAmong sign k))
   where
     go : (s : Bool) (m : ℕ) → cond (not s) (suc m) m ≡ cond s m (suc m)
     go true m = refl

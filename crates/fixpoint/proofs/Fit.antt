@@ -8,7 +8,7 @@ use Rattle.trees.specs.Tree.{children}
 use Rattle.trees.specs.Fit.{FitsIn, Placed, done, here, skip}
 use Rattle.fixpoint.specs.Values.{Values}
 use Rattle.fixpoint.specs.Lawful.{Lawful, MonotoneQuery, Range, Between}
-use Rattle.fixpoint.specs.Levels.{least-levels, greatest-levels}
+use Rattle.fixpoint.specs.Levels.{leastAmong, greatestAmong}
 use Rattle.fixpoint.specs.Restricted.{restricted, level, rise, fall}
 use Rattle.fixpoint.proofs.Order.{below-refl, range-up, range-down}
 use Rattle.fixpoint.proofs.Levels.{least-at-least, least-at-greatest}
@@ -44,7 +44,7 @@ module _ (𝓥 : Values) (𝓛 : Lawful 𝓥) where
     res = restricted 𝓥 sign f
 
     abbrev FitLaw : ℕ → Type 0
-    FitLaw k = (xs : List C) (a b : C) (t u v : List ℕ) → Range 𝓥 a b → FitsIn (least-levels sign k) t u → res k xs a b t v ⊑ res k xs a b u v
+    FitLaw k = (xs : List C) (a b : C) (t u v : List ℕ) → Range 𝓥 a b → FitsIn (leastAmong sign k) t u → res k xs a b t v ⊑ res k xs a b u v
 
     module _ (k : ℕ) (ih : FitLaw k) (xs : List C) where
       abbrev below : C → C → C → List ℕ → List ℕ → C
@@ -56,17 +56,17 @@ module _ (𝓥 : Values) (𝓛 : Lawful 𝓥) where
       under : Under 𝓥 below below
       under = level-below 𝓥 𝓛 sign f f-mono k (below-refl 𝓥 𝓛 xs)
 
-      level-fit : (s : Bool) → sign k ≡ s → (hu hv : ℕ) → hu ≡ least-levels sign (suc k) → (a b : C) (t u v : List ℕ) → Range 𝓥 a b → FitsIn (least-levels sign (suc k)) t u
+      level-fit : (s : Bool) → sign k ≡ s → (hu hv : ℕ) → hu ≡ leastAmong sign (suc k) → (a b : C) (t u v : List ℕ) → Range 𝓥 a b → FitsIn (leastAmong sign (suc k)) t u
           → level below s hu hv a b t v ⊑ level below s hu hv a b u v
       unfolding level FitsIn
       level-fit true e hu hv w a b t u v r q =
-          fall-fit below keeps under (least-levels sign k) (λ c. ih (c ∷ xs)) t u (children hv v) r r (refl⊑ b) (subst (λ (h : ℕ). FitsIn h t u) (least-at-greatest sign k e) q)
+          fall-fit below keeps under (leastAmong sign k) (λ c. ih (c ∷ xs)) t u (children hv v) r r (refl⊑ b) (subst (λ (h : ℕ). FitsIn h t u) (least-at-greatest sign k e) q)
       level-fit false e hu hv w a b t u v r q =
           rw (w, least-at-least sign k e)
-          (rise-fit below keeps under (least-levels sign k) (λ c. ih (c ∷ xs)) v r r (refl⊑ a) (subst (λ (h : ℕ). FitsIn h t u) (least-at-least sign k e) q))
+          (rise-fit below keeps under (leastAmong sign k) (λ c. ih (c ∷ xs)) v r r (refl⊑ a) (subst (λ (h : ℕ). FitsIn h t u) (least-at-least sign k e) q))
 
-    pub fit-law : (k : ℕ) (xs : List C) (a b : C) (t u v : List ℕ) → Range 𝓥 a b → FitsIn (least-levels sign k) t u
+    pub fit-law : (k : ℕ) (xs : List C) (a b : C) (t u v : List ℕ) → Range 𝓥 a b → FitsIn (leastAmong sign k) t u
         → restricted 𝓥 sign f k xs a b t v ⊑ restricted 𝓥 sign f k xs a b u v
     unfolding restricted
     fit-law zero xs a b t u v r q = refl⊑ (step a b (f xs))
-    fit-law (suc k) xs a b t u v r q = level-fit k (fit-law k) xs (sign k) refl (least-levels sign (suc k)) (greatest-levels sign (suc k)) refl a b t u v r q
+    fit-law (suc k) xs a b t u v r q = level-fit k (fit-law k) xs (sign k) refl (leastAmong sign (suc k)) (greatestAmong sign (suc k)) refl a b t u v r q

@@ -9,7 +9,7 @@ use native.Mathlib.Omega.{arith}
 use Rattle.fixpoint.specs.Values.{Values}
 use Rattle.fixpoint.specs.Lawful.{Lawful, Monotone, Bounded, MonotoneQuery, Range, Between}
 use Rattle.fixpoint.specs.Nested.{nested, extreme}
-use Rattle.fixpoint.specs.Plain.{Run, then-rounds, settle, plain}
+use Rattle.fixpoint.specs.Plain.{Run, thenRounds, settle, plain}
 use Rattle.fixpoint.proofs.Order.{eq-le, between-bounded, rank-mono}
 use Rattle.fixpoint.proofs.Dual.{dual, dual-lawful, dual-monotone, dual-range, dual-between}
 use Rattle.fixpoint.proofs.Nested.{nested-laws, level-mono}
@@ -20,8 +20,8 @@ pub record Tells {C : Type 0} (same : C → C → Bool) : Type 0 where
   pub complete : (x : C) → same x x ≡ true
 
 -- a run makes at least one query
-then-positive : {C : Type 0} (t : Bool) (r u : Run C) → 1 ≤ r .queries → 1 ≤ then-rounds t r u .queries
-unfolding then-rounds
+then-positive : {C : Type 0} (t : Bool) (r u : Run C) → 1 ≤ r .queries → 1 ≤ thenRounds t r u .queries
+unfolding thenRounds
 then-positive true r u h = h
 then-positive false r u h = omega arith
 
@@ -64,12 +64,12 @@ module _ (𝓥 : Values) (𝓛 : Lawful 𝓥) (same : 𝓥 .C → 𝓥 .C → Bo
       record { low = g-bounded x .0; rises = g-mono x (g x) (r .rises); room = omega (arith, r .room) })
 
   settle-value : (m : ℕ) (x : C) → Rising 𝓥 g m x → x ⊑ lfp g → settle same round m x .value ≡ lfp g
-  unfolding settle then-rounds
+  unfolding settle thenRounds
   settle-value zero x r h = absurd (no-room r)
   settle-value (suc m) x r h = go (same (round x .value) x) refl (settle-value m (round x .value))
     where
       go : (t : Bool) → same (round x .value) x ≡ t → (Rising 𝓥 g m (round x .value) → round x .value ⊑ lfp g → settle same round m (round x .value) .value ≡ lfp g)
-          → then-rounds (same (round x .value) x) (round x) (settle same round m (round x .value)) .value ≡ lfp g
+          → thenRounds (same (round x .value) x) (round x) (settle same round m (round x .value)) .value ≡ lfp g
       go true e ih =
           let q : round x .value ≡ x = tells .sound e in
           rw e (q ∙ antisym⊑ h (𝓛 .lfp-least g g-mono g-bounded x (eq-le 𝓥 𝓛 (sym (round-value x) ∙ q))))
@@ -77,14 +77,14 @@ module _ (𝓥 : Values) (𝓛 : Lawful 𝓥) (same : 𝓥 .C → 𝓥 .C → Bo
           rw e (ih (next r e) (subst (λ (z : C). z ⊑ lfp g) (sym (round-value x)) (trans⊑ (g-mono x (lfp g) h) (eq-le 𝓥 𝓛 (𝓛 .lfp-fixed g g-mono g-bounded)))))
 
   settle-bound : (m m′ : ℕ) (x : C) → Rising 𝓥 g m x → Rising 𝓥 g m′ x → settle same round m x ≡ settle same round m′ x
-  unfolding settle then-rounds
+  unfolding settle thenRounds
   settle-bound zero m′ x r r′ = absurd (no-room r)
   settle-bound (suc m) zero x r r′ = absurd (no-room r′)
   settle-bound (suc m) (suc m′) x r r′ = go (same (round x .value) x) refl (settle-bound m m′ (round x .value))
     where
       go : (t : Bool) → same (round x .value) x ≡ t
           → (Rising 𝓥 g m (round x .value) → Rising 𝓥 g m′ (round x .value) → settle same round m (round x .value) ≡ settle same round m′ (round x .value))
-          → then-rounds (same (round x .value) x) (round x) (settle same round m (round x .value)) ≡ then-rounds (same (round x .value) x) (round x) (settle same round m′ (round x .value))
+          → thenRounds (same (round x .value) x) (round x) (settle same round m (round x .value)) ≡ thenRounds (same (round x .value) x) (round x) (settle same round m′ (round x .value))
       go true e ih = rw e
       go false e ih = rw (e, ih (next r e) (next r′ e))
 

@@ -11,7 +11,7 @@ use Rattle.trees.specs.Fit.{Universal}
 use Rattle.trees.proofs.Children.{Trees, none, more, total, children-grow, grow-leaves, grow-tree}
 use Rattle.fixpoint.specs.Values.{Values}
 use Rattle.fixpoint.specs.Lawful.{Lawful, MonotoneQuery, cons⊑, Range, Between}
-use Rattle.fixpoint.specs.Levels.{least-levels, greatest-levels}
+use Rattle.fixpoint.specs.Levels.{leastAmong, greatestAmong}
 use Rattle.fixpoint.specs.Nested.{nested, extreme}
 use Rattle.fixpoint.specs.Restricted.{restricted, level, rise, fall}
 use Rattle.fixpoint.proofs.Order.{eq-le, below-refl, range-up, range-down, between-bounded, rank-mono}
@@ -52,7 +52,7 @@ module _ (𝓥 : Values) (𝓛 : Lawful 𝓥) (sign : ℕ → Bool) (f : List (�
   -- a tree over which the levels k, .., 1 reach d from a, with at most as many leaves as d's rank is above a's
   record Found (k : ℕ) (xs : List C) (a d : C) : Type 0 where
     tree : List ℕ
-    is-tree : IsTree (least-levels sign k) tree
+    is-tree : IsTree (leastAmong sign k) tree
     small : leaves tree + rank a ≤ rank d
     reaches : (v : List ℕ) → d ⊑ res k xs a d tree v
 
@@ -63,7 +63,7 @@ module _ (𝓥 : Values) (𝓛 : Lawful 𝓥) (sign : ℕ → Bool) (f : List (�
   record Chain (k : ℕ) (xs : List C) (a d : C) : Type 0 where
     first : List ℕ
     rest : List (List ℕ)
-    are-trees : Trees (least-levels sign k) (first ∷ rest)
+    are-trees : Trees (leastAmong sign k) (first ∷ rest)
     small : total (first ∷ rest) + rank a ≤ rank d
     reaches : (v : List ℕ) → d ⊑ rise (λ c. res k (c ∷ xs)) d v a (first ∷ rest)
 
@@ -155,19 +155,19 @@ module _ (𝓥 : Values) (𝓛 : Lawful 𝓥) (sign : ℕ → Bool) (f : List (�
           tree = F .tree;
           is-tree = rw (least-at-greatest sign k s) (F .is-tree);
           small = F .small;
-          reaches = λ v. rw s (fall-keeps k xs a d (F .tree) r (F .reaches) d (children (greatest-levels sign (suc k)) v) r (refl⊑ d));
+          reaches = λ v. rw s (fall-keeps k xs a d (F .tree) r (F .reaches) d (children (greatestAmong sign (suc k)) v) r (refl⊑ d));
         }
 
     key-least : sign k ≡ false → Key (suc k)
     unfolding restricted level
     key-least s xs a d r ne e =
         let N : Chain k xs a d = chain k ih s xs d (rank d) a (omega arith) r ne e in
-        let t : List ℕ = grow (suc (least-levels sign k)) (N .first ∷ N .rest) in
+        let t : List ℕ = grow (suc (leastAmong sign k)) (N .first ∷ N .rest) in
         record {
           tree = t;
-          is-tree = rw (least-at-least sign k s) (grow-tree (least-levels sign k) (N .first) (N .rest) (N .are-trees));
-          small = subst (λ (n : ℕ). n + rank a ≤ rank d) (sym (grow-leaves (suc (least-levels sign k)) (N .first) (N .rest))) (N .small);
-          reaches = λ v. rw (s, least-at-least sign k s, children-grow (least-levels sign k) (N .first) (N .rest) (N .are-trees)) (N .reaches v);
+          is-tree = rw (least-at-least sign k s) (grow-tree (leastAmong sign k) (N .first) (N .rest) (N .are-trees));
+          small = subst (λ (n : ℕ). n + rank a ≤ rank d) (sym (grow-leaves (suc (leastAmong sign k)) (N .first) (N .rest))) (N .small);
+          reaches = λ v. rw (s, least-at-least sign k s, children-grow (leastAmong sign k) (N .first) (N .rest) (N .are-trees)) (N .reaches v);
         }
 
     key-by : (s : Bool) → sign k ≡ s → Key (suc k)
@@ -182,7 +182,7 @@ module _ (𝓥 : Values) (𝓛 : Lawful 𝓥) (sign : ℕ → Bool) (f : List (�
   key (suc k) xs a d r ne e = key-by k (key k) (sign k) refl xs a d r ne e
 
   -- a tree that is universal for as many leaves as the rank spans reaches the nested fixpoint
-  module _ (n k : ℕ) (span : rank top ≤ rank bot + n) (xs : List C) (a b : C) (r : Range 𝓥 a b) (u v : List ℕ) (univ : Universal n (least-levels sign k) u) where
+  module _ (n k : ℕ) (span : rank top ≤ rank bot + n) (xs : List C) (a b : C) (r : Range 𝓥 a b) (u v : List ℕ) (univ : Universal n (leastAmong sign k) u) where
     reach-by : Dec (a ≡ val k xs a b) → val k xs a b ⊑ res k xs a b u v
     unfolding Universal
     reach-by (yes q) = trans⊑ (eq-le 𝓥 𝓛 (sym q)) (res-between k xs u v r .above)

@@ -8,7 +8,7 @@ use Prim.Native.Nat.{ℕ, zero, suc}
 use Rattle.trees.specs.Tree.{children}
 use Rattle.fixpoint.specs.Values.{Values}
 use Rattle.fixpoint.specs.Lawful.{Lawful, MonotoneQuery, Below, cons⊑, Range, Between}
-use Rattle.fixpoint.specs.Levels.{least-levels, greatest-levels}
+use Rattle.fixpoint.specs.Levels.{leastAmong, greatestAmong}
 use Rattle.fixpoint.specs.Restricted.{restricted, level, rise, fall}
 use Rattle.fixpoint.proofs.Order.{range-up}
 use Rattle.fixpoint.proofs.Dual.{dual, dual-lawful, dual-range, range-dual, dual-between, between-dual}
@@ -108,9 +108,9 @@ module _ (𝓥 : Values) (𝓛 : Lawful 𝓥) where
     restricted-laws (suc k) = record {
       mono = λ {xs} {ys} u v r r′ p ha hb.
           level-under (λ c. res k (c ∷ xs)) (keeps k (restricted-laws k) xs) (λ c. res k (c ∷ ys)) (keeps k (restricted-laws k) ys) (under k (restricted-laws k) p)
-          (sign k) (least-levels sign (suc k)) (greatest-levels sign (suc k)) u v r r′ ha hb;
+          (sign k) (leastAmong sign (suc k)) (greatestAmong sign (suc k)) u v r r′ ha hb;
       between = λ xs u v r.
-          level-between (λ c. res k (c ∷ xs)) (keeps k (restricted-laws k) xs) (sign k) (least-levels sign (suc k)) (greatest-levels sign (suc k)) u v r;
+          level-between (λ c. res k (c ∷ xs)) (keeps k (restricted-laws k) xs) (sign k) (leastAmong sign (suc k)) (greatestAmong sign (suc k)) u v r;
     }
 
     -- the same of one level's function of its argument

@@ -16,7 +16,7 @@ use Rattle.sets.proofs.Members.{members-empty, members-full, members-strict}
 use Rattle.sets.proofs.Extreme.{least-fixed, least-least, greatest-fixed, greatest-greatest}
 use Rattle.trees.specs.Fit.{Universal}
 use Rattle.fixpoint.specs.Lawful.{Lawful, MonotoneQuery, Range, Between}
-use Rattle.fixpoint.specs.Levels.{least-levels, greatest-levels}
+use Rattle.fixpoint.specs.Levels.{leastAmong, greatestAmong}
 use Rattle.fixpoint.specs.Nested.{nested}
 use Rattle.fixpoint.specs.Restricted.{restricted}
 use Rattle.fixpoint.specs.Plain.{plain}
@@ -61,7 +61,7 @@ sets-range n a b h l = record { low = order.empty-least a; mid = h; high = below
 
 module _ (n : ℕ) (sign : ℕ → Bool) (f : List ℕ → ℕ) (f-mono : MonotoneQuery (sets n) f) (a b : ℕ) (r : Range (sets n) a b) where
   -- Demand 3 of sets: over two trees that are universal for n the restricted set is the nested fixpoint
-  pub universal-nested : (k : ℕ) (xs u v : List ℕ) → Universal n (least-levels sign k) u → Universal n (greatest-levels sign k) v
+  pub universal-nested : (k : ℕ) (xs u v : List ℕ) → Universal n (leastAmong sign k) u → Universal n (greatestAmong sign k) v
       → restricted (sets n) sign f k xs a b u v ≡ nested (sets n) sign f k xs a b
   universal-nested k xs u v = universal-exact (sets n) (sets-lawful n) sign f f-mono n k (members-span n) xs a b r u v
 
@@ -83,6 +83,6 @@ module _ (n : ℕ) (sign : ℕ → Bool) (f : List ℕ → ℕ) (f-mono : Monoto
   plain-between m h k xs = rw (plain-nested m h k xs) (nested-between k xs)
 
   -- the plain route and a run over universal trees come to the same set
-  pub routes-agree : (m : ℕ) → n < m → (k : ℕ) (xs u v : List ℕ) → Universal n (least-levels sign k) u → Universal n (greatest-levels sign k) v
+  pub routes-agree : (m : ℕ) → n < m → (k : ℕ) (xs u v : List ℕ) → Universal n (leastAmong sign k) u → Universal n (greatestAmong sign k) v
       → plain (sets n) eqb m sign f a b k xs .value ≡ restricted (sets n) sign f k xs a b u v
   routes-agree m h k xs u v pu pv = plain-nested m h k xs ∙ sym (universal-nested k xs u v pu pv)

@@ -10,7 +10,7 @@ use Rattle.trees.specs.Tree.{children}
 use Rattle.trees.specs.Fit.{Universal}
 use Rattle.fixpoint.specs.Values.{Values}
 use Rattle.fixpoint.specs.Lawful.{Lawful, MonotoneQuery, Range}
-use Rattle.fixpoint.specs.Levels.{least-levels, greatest-levels}
+use Rattle.fixpoint.specs.Levels.{leastAmong, greatestAmong}
 use Rattle.fixpoint.specs.Nested.{nested, extreme}
 use Rattle.fixpoint.specs.Restricted.{restricted, level}
 use Rattle.fixpoint.proofs.Dual.{dual, dual-lawful, dual-range, below-dual, flip, least-flip, greatest-flip}
@@ -42,16 +42,16 @@ module _ (𝓥 : Values) (sign : ℕ → Bool) (f : List (𝓥 .C) → 𝓥 .C) 
   restricted-dual zero xs a b u v = refl
   restricted-dual (suc k) xs a b u v =
       rw (least-flip sign (suc k), greatest-flip sign (suc k))
-      (ap (λ (p : C → C → C → List ℕ → List ℕ → C). level p (not (sign k)) (greatest-levels sign (suc k)) (least-levels sign (suc k)) b a v u)
+      (ap (λ (p : C → C → C → List ℕ → List ℕ → C). level p (not (sign k)) (greatestAmong sign (suc k)) (leastAmong sign (suc k)) b a v u)
       (fun-ext (λ c. fun-ext (λ b. fun-ext (λ a. fun-ext (λ v. fun-ext (λ u. restricted-dual k (c ∷ xs) a b u v))))))
-      ∙ level-turn (λ c. restricted 𝓥 sign f k (c ∷ xs)) (sign k) (least-levels sign (suc k)) (greatest-levels sign (suc k)) a b u v)
+      ∙ level-turn (λ c. restricted 𝓥 sign f k (c ∷ xs)) (sign k) (leastAmong sign (suc k)) (greatestAmong sign (suc k)) a b u v)
 
 module _ (𝓥 : Values) (𝓛 : Lawful 𝓥) (sign : ℕ → Bool) (f : List (𝓥 .C) → 𝓥 .C) (f-mono : MonotoneQuery 𝓥 f) where
   open Values 𝓥 using (C, _⊑_, bot, top, rank)
 
   infix 40 _⊑_
   pub universal-exact : (n k : ℕ) → rank top ≤ rank bot + n → (xs : List C) (a b : C) → Range 𝓥 a b → (u v : List ℕ)
-      → Universal n (least-levels sign k) u → Universal n (greatest-levels sign k) v
+      → Universal n (leastAmong sign k) u → Universal n (greatestAmong sign k) v
       → restricted 𝓥 sign f k xs a b u v ≡ nested 𝓥 sign f k xs a b
   universal-exact n k span xs a b r u v pu pv = 𝓛 .antisym⊑ high (reach 𝓥 𝓛 sign f f-mono n k span xs a b r u v pu)
     where

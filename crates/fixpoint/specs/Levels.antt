@@ -5,11 +5,11 @@ use mathlib.Core.Bool.{Bool, cond}
 use Prim.Native.Nat.{ℕ, zero, suc}
 
 -- how many of the first k levels are greatest
-unfoldable pub greatest-levels : (ℕ → Bool) → ℕ → ℕ
-greatest-levels sign zero = 0
-greatest-levels sign (suc k) = cond (sign k) (suc (greatest-levels sign k)) (greatest-levels sign k)
+unfoldable pub greatestAmong : (ℕ → Bool) → ℕ → ℕ
+greatestAmong sign zero = 0
+greatestAmong sign (suc k) = cond (sign k) (suc (greatestAmong sign k)) (greatestAmong sign k)
 
 -- how many of the first k levels are least
-unfoldable pub least-levels : (ℕ → Bool) → ℕ → ℕ
-least-levels sign zero = 0
-least-levels sign (suc k) = cond (sign k) (least-levels sign k) (suc (least-levels sign k))
+unfoldable pub leastAmong : (ℕ → Bool) → ℕ → ℕ
+leastAmong sign zero = 0
+leastAmong sign (suc k) = cond (sign k) (leastAmong sign k) (suc (leastAmong sign k))

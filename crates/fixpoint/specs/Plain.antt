@@ -11,9 +11,9 @@ pub record Run (C : Type 0) : Type 0 where
   pub queries : ℕ
 
 -- The run r of one round: all there is if it changed nothing, else with the run t of the rounds after it.
-unfoldable pub then-rounds : {C : Type 0} → Bool → Run C → Run C → Run C
-then-rounds true r t = r
-then-rounds false r t = record { value = t .value; queries = r .queries + t .queries }
+unfoldable pub thenRounds : {C : Type 0} → Bool → Run C → Run C → Run C
+thenRounds true r t = r
+thenRounds false r t = record { value = t .value; queries = r .queries + t .queries }
 
 module _ {C : Type 0} (same : C → C → Bool) (round : C → Run C) where
   -- Rounds from x, up to and with the first that changes nothing. There are at most m of them, so that the definition ends.
@@ -22,7 +22,7 @@ module _ {C : Type 0} (same : C → C → Bool) (round : C → Run C) where
   settle (suc m) x =
       let r : Run C = round x in
       let t : Run C = settle m (r .value) in
-      then-rounds (same (r .value) x) r t
+      thenRounds (same (r .value) x) r t
 
 module _ (𝓥 : Values) (same : 𝓥 .C → 𝓥 .C → Bool) (rounds : ℕ) (sign : ℕ → Bool) (f : List (𝓥 .C) → 𝓥 .C) (a b : 𝓥 .C) where
   open Values 𝓥 using (C, step)

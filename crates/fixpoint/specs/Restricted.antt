@@ -5,7 +5,7 @@ use mathlib.Core.List.{List, [], _∷_}
 use Prim.Native.Nat.{ℕ, zero, suc, _+_}
 use Rattle.trees.specs.Tree.{children}
 use Rattle.fixpoint.specs.Values.{Values}
-use Rattle.fixpoint.specs.Levels.{least-levels, greatest-levels}
+use Rattle.fixpoint.specs.Levels.{leastAmong, greatestAmong}
 
 module _ {C : Type 0} (below : C → C → C → List ℕ → List ℕ → C) where
   -- `below c a b u v` is the level below with this level's argument c, between a and b, over the trees u and v.
@@ -32,20 +32,20 @@ module _ (𝓥 : Values) (sign : ℕ → Bool) (f : List (𝓥 .C) → 𝓥 .C) 
   unfoldable pub restricted : ℕ → List C → C → C → List ℕ → List ℕ → C
   restricted zero xs a b u v = step a b (f xs)
   restricted (suc k) xs a b u v =
-      level (λ c. restricted k (c ∷ xs)) (sign k) (least-levels sign (suc k)) (greatest-levels sign (suc k)) a b u v
+      level (λ c. restricted k (c ∷ xs)) (sign k) (leastAmong sign (suc k)) (greatestAmong sign (suc k)) a b u v
 
 -- the sum of what `count` gives for each of some trees
-unfoldable pub sum-over : (List ℕ → ℕ) → List (List ℕ) → ℕ
-sum-over count [] = 0
-sum-over count (t ∷ ts) = count t + sum-over count ts
+unfoldable pub sumOver : (List ℕ → ℕ) → List (List ℕ) → ℕ
+sumOver count [] = 0
+sumOver count (t ∷ ts) = count t + sumOver count ts
 
 -- the queries of one level, by its sign: those of the levels below, for each child of its tree
-unfoldable pub level-queries : (List ℕ → List ℕ → ℕ) → Bool → ℕ → ℕ → List ℕ → List ℕ → ℕ
-level-queries below true hu hv u v = sum-over (λ w. below u w) (children hv v)
-level-queries below false hu hv u v = sum-over (λ w. below w v) (children hu u)
+unfoldable pub levelQueries : (List ℕ → List ℕ → ℕ) → Bool → ℕ → ℕ → List ℕ → List ℕ → ℕ
+levelQueries below true hu hv u v = sumOver (λ w. below u w) (children hv v)
+levelQueries below false hu hv u v = sumOver (λ w. below w v) (children hu u)
 
 -- the queries that the restricted value of the levels k, .., 1 makes
-unfoldable pub restricted-queries : (ℕ → Bool) → ℕ → List ℕ → List ℕ → ℕ
-restricted-queries sign zero u v = 1
-restricted-queries sign (suc k) u v =
-    level-queries (restricted-queries sign k) (sign k) (least-levels sign (suc k)) (greatest-levels sign (suc k)) u v
+unfoldable pub restrictedQueries : (ℕ → Bool) → ℕ → List ℕ → List ℕ → ℕ
+restrictedQueries sign zero u v = 1
+restrictedQueries sign (suc k) u v =
+    levelQueries (restrictedQueries sign k) (sign k) (leastAmong sign (suc k)) (greatestAmong sign (suc k)) u v

@@ -8,7 +8,7 @@ use native.Mathlib.Numerals.{add-one}
 use lib.ListN.{length, set, take}
 use Rattle.sets.specs.Set.{boundedStep}
 use Rattle.trees.specs.Tree.{children}
-use Rattle.fixpoint.specs.Restricted.{restricted, level, restricted-queries, level-queries}
+use Rattle.fixpoint.specs.Restricted.{restricted, level, restrictedQueries, levelQueries}
 use Rattle.fixpoint.proofs.Levels.{least-at-least, least-at-greatest, greatest-at-least, greatest-at-greatest}
 use Rattle.model.specs.System.{System, sign}
 use Rattle.model.specs.Query.{query}
@@ -31,7 +31,7 @@ module _ (s : System) (m : Model) (k : ℕ) (xs : List ℕ) (a b : ℕ) where
 module _ (s : System) (m : Model) (k : ℕ) (xs : List ℕ) (a b : ℕ) (u v : List ℕ) (r : Found) where
   -- with no level left, one query
   pub no-level : k ≡ 0 → r .set ≡ boundedStep a b (query s (take (m .levels) xs)) → r .count ≡ 1 → LevelGives s m k xs a b u v r
-  unfolding restricted restricted-queries
+  unfolding restricted restrictedQueries
   no-level z x c = rw z (record { value = x; queries = c })
 
   -- what the levels give, with the next level's argument x stored for it
@@ -48,9 +48,9 @@ module _ (s : System) {k j : ℕ} (next : k ≡ suc j) where
 
   module _ (m : Model) (xs : List ℕ) (a b : ℕ) (u v : List ℕ) (r : Found) where
     pub least-level : sign s j ≡ false → LeastGives s m j xs a b (children (leastOf s k) u) v r → LevelGives s m k xs a b u v r
-    unfolding restricted level restricted-queries level-queries
+    unfolding restricted level restrictedQueries levelQueries
     least-level e g = rw (next, e) (rw (next, add-one j) at g)
 
     pub greatest-level : sign s j ≡ true → GreatestGives s m j xs a b u (children (greatestOf s k) v) r → LevelGives s m k xs a b u v r
-    unfolding restricted level restricted-queries level-queries
+    unfolding restricted level restrictedQueries levelQueries
     greatest-level e g = rw (next, e) (rw (next, add-one j) at g)

@@ -1,9 +1,9 @@
 pub mod Places
 pub mod Rounds
-pub mod Walk
+pub mod OverChildren
 pub mod Levels
-pub mod Few
-pub mod Gaps
-pub mod Halves
-pub mod Cuts
+pub mod QueryBound
+pub mod FirstChild
+pub mod BuiltLevels
+pub mod LentLevels
 pub mod Promises

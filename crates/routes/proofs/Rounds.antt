@@ -7,7 +7,7 @@ use Prim.Native.Nat.{ℕ, zero, suc, _-_, _≤_, _<_}
 use native.Mathlib.Omega.{arith}
 use borrow.Author.Tests.{le-leb, lt-leb, leb-true, leb-false, eq-eqb, ne-eqb}
 use lib.Dec.{eqb, leb}
-use Rattle.fixpoint.specs.Plain.{Run, then-rounds, settle}
+use Rattle.fixpoint.specs.Plain.{Run, thenRounds, settle}
 use Rattle.routes.specs.Parts.{under}
 use Rattle.routes.specs.declared.plain_route.Outcome.the-variants.{Settled, Spent}
 
@@ -45,21 +45,21 @@ spent-exceeds rest r e = go (leb (r .queries) rest) refl
     go false f = leb-false (r .queries) rest f
 
 -- a run that goes on after its first round uses up what the round left
-goes-on : (rest : ℕ) (r t : Run ℕ) (set left : ℕ) → Fits rest r set left → under rest (then-rounds false r t) ≡ under left t
-unfolding then-rounds
+goes-on : (rest : ℕ) (r t : Run ℕ) (set left : ℕ) → Fits rest r set left → under rest (thenRounds false r t) ≡ under left t
+unfolding thenRounds
 goes-on rest r t set left f = go (leb (t .queries) left) refl
   where
-    go : (b : Bool) → leb (t .queries) left ≡ b → under rest (then-rounds false r t) ≡ under left t
+    go : (b : Bool) → leb (t .queries) left ≡ b → under rest (thenRounds false r t) ≡ under left t
     go true e =
         let h : t .queries ≤ left = leb-true (t .queries) left e in
         let o : rest - r .queries ≡ left = f .over in
         let few : r .queries ≤ rest = f .few in
-        fits rest (then-rounds false r t) (omega arith) ∙ ap (Settled (t .value)) (omega arith) ∙ sym (fits left t h)
+        fits rest (thenRounds false r t) (omega arith) ∙ ap (Settled (t .value)) (omega arith) ∙ sym (fits left t h)
     go false e =
         let h : left < t .queries = leb-false (t .queries) left e in
         let o : rest - r .queries ≡ left = f .over in
         let few : r .queries ≤ rest = f .few in
-        exceeds rest (then-rounds false r t) (omega arith) ∙ sym (exceeds left t h)
+        exceeds rest (thenRounds false r t) (omega arith) ∙ sym (exceeds left t h)
 
 module _ (round : ℕ → Run ℕ) where
   -- the run from `start` under a ceiling ends as the run from x does under what is left of it; `fuel` rounds are more than are left
@@ -70,18 +70,18 @@ module _ (round : ℕ → Run ℕ) where
 
   -- the next round, which the fuel is enough for
   pub one-round : {run : Run ℕ} {ceiling x rest : ℕ} → Ahead run ceiling x rest
-      → (F : ℕ) × (rest < suc F) × (under ceiling run ≡ under rest (then-rounds (eqb (round x .value) x) (round x) (settle eqb round F (round x .value))))
+      → (F : ℕ) × (rest < suc F) × (under ceiling run ≡ under rest (thenRounds (eqb (round x .value) x) (round x) (settle eqb round F (round x .value))))
   unfolding settle
   one-round {run} {ceiling} {x} {rest} a = go (a .fuel) (a .more) (a .same)
     where
       go : (fuel : ℕ) → rest < fuel → under ceiling run ≡ under rest (settle eqb round fuel x)
-          → (F : ℕ) × (rest < suc F) × (under ceiling run ≡ under rest (then-rounds (eqb (round x .value) x) (round x) (settle eqb round F (round x .value))))
+          → (F : ℕ) × (rest < suc F) × (under ceiling run ≡ under rest (thenRounds (eqb (round x .value) x) (round x) (settle eqb round F (round x .value))))
       go zero h e = absurd (omega arith)
       go (suc F) h e = (F, h, e)
 
   -- a round that does not fit
   pub round-spent : {run : Run ℕ} {ceiling x rest : ℕ} → Ahead run ceiling x rest → under rest (round x) ≡ Spent → under ceiling run ≡ Spent
-  unfolding then-rounds
+  unfolding thenRounds
   round-spent {run} {ceiling} {x} {rest} a e =
       let (F, m, s) = one-round a in
       s ∙ go (eqb (round x .value) x) (settle eqb round F (round x .value))
@@ -89,14 +89,14 @@ module _ (round : ℕ → Run ℕ) where
       over : rest < round x .queries
       over = spent-exceeds rest (round x) e
 
-      go : (b : Bool) (t : Run ℕ) → under rest (then-rounds b (round x) t) ≡ Spent
+      go : (b : Bool) (t : Run ℕ) → under rest (thenRounds b (round x) t) ≡ Spent
       go true t = e
-      go false t = exceeds rest (then-rounds false (round x) t) (omega (arith, over))
+      go false t = exceeds rest (thenRounds false (round x) t) (omega (arith, over))
 
   -- a round that changes nothing
   pub round-same : {run : Run ℕ} {ceiling x rest : ℕ} → Ahead run ceiling x rest → (set left : ℕ) → under rest (round x) ≡ Settled set left → set ≡ x
       → under ceiling run ≡ Settled set left
-  unfolding then-rounds
+  unfolding thenRounds
   round-same {run} {ceiling} {x} {rest} a set left e q =
       let (F, m, s) = one-round a in
       s ∙ rw (eq-eqb (round x .value) x (settled-fits rest (round x) set left e .value ∙ q)) e

@@ -11,8 +11,8 @@ use Rattle.model.specs.Query.{query}
 use Rattle.model.specs.File.{fileLength, sections}
 use Rattle.model.specs.declared.layout.Model.{Model}
 use Rattle.trees.specs.Tree.{IsTree}
-use Rattle.fixpoint.specs.Levels.{least-levels, greatest-levels}
-use Rattle.fixpoint.specs.Restricted.{restricted, restricted-queries, rise, fall, sum-over}
+use Rattle.fixpoint.specs.Levels.{leastAmong, greatestAmong}
+use Rattle.fixpoint.specs.Restricted.{restricted, restrictedQueries, rise, fall, sumOver}
 use Rattle.fixpoint.specs.Plain.{Run, plain}
 use Rattle.fixpoint.specs.Sets.{sets}
 use Rattle.routes.specs.declared.step.Found.{Found}
@@ -35,10 +35,10 @@ above m k xs = drop k (take (m .levels) xs)
 
 -- the numbers of least and of greatest levels among the first k
 abbrev pub leastOf : System → ℕ → ℕ
-leastOf s k = least-levels (sign s) k
+leastOf s k = leastAmong (sign s) k
 
 abbrev pub greatestOf : System → ℕ → ℕ
-greatestOf s k = greatest-levels (sign s) k
+greatestOf s k = greatestAmong (sign s) k
 
 -- the plain rounds of the levels k, .., 1, with at most `rounds` rounds a level
 abbrev pub plainFrom : ℕ → System → ℕ → ℕ → ℕ → List ℕ → Run ℕ
@@ -49,7 +49,7 @@ abbrev pub restrictedFrom : System → ℕ → List ℕ → ℕ → ℕ → List
 restrictedFrom s k xs a b u v = restricted (sets (s .lines)) (sign s) (query s) k xs a b u v
 
 abbrev pub queriesFrom : System → ℕ → List ℕ → List ℕ → ℕ
-queriesFrom s k u v = restricted-queries (sign s) k u v
+queriesFrom s k u v = restrictedQueries (sign s) k u v
 
 -- a run under a ceiling: its set with what is left of the ceiling, if the queries do not exceed it
 abbrev pub under : ℕ → Run ℕ → Outcome
@@ -61,13 +61,13 @@ abbrev pub riseFrom : System → ℕ → List ℕ → ℕ → ℕ → List (List
 riseFrom s below xs a b us v = rise (λ c. restrictedFrom s below (c ∷ xs)) b v a us
 
 abbrev pub riseQueries : System → ℕ → List (List ℕ) → List ℕ → ℕ
-riseQueries s below us v = sum-over (λ w. queriesFrom s below w v) us
+riseQueries s below us v = sumOver (λ w. queriesFrom s below w v) us
 
 abbrev pub fallFrom : System → ℕ → List ℕ → ℕ → ℕ → List ℕ → List (List ℕ) → ℕ
 fallFrom s below xs a b u vs = fall (λ c. restrictedFrom s below (c ∷ xs)) a u b vs
 
 abbrev pub fallQueries : System → ℕ → List ℕ → List (List ℕ) → ℕ
-fallQueries s below u vs = sum-over (λ w. queriesFrom s below u w) vs
+fallQueries s below u vs = sumOver (λ w. queriesFrom s below u w) vs
 
 -- a set with its queries is this set with these
 pub record Gives (r : Found) (set count : ℕ) : Type 0 where

@@ -6,18 +6,18 @@ use lib.Dec.{eqb}
 use Rattle.model.specs.System.{System, sign}
 use Rattle.model.specs.Query.{query}
 use Rattle.trees.specs.Built.{built}
-use Rattle.fixpoint.specs.Levels.{least-levels, greatest-levels}
+use Rattle.fixpoint.specs.Levels.{leastAmong, greatestAmong}
 use Rattle.fixpoint.specs.Nested.{nested}
-use Rattle.fixpoint.specs.Restricted.{restricted, restricted-queries}
+use Rattle.fixpoint.specs.Restricted.{restricted, restrictedQueries}
 use Rattle.fixpoint.specs.Plain.{Run, plain}
 use Rattle.fixpoint.specs.Sets.{sets}
 
 -- the numbers of least and of greatest levels: the heights of the trees U and V
 abbrev pub leastLevels : System → ℕ
-leastLevels m = least-levels (sign m) (m .levels)
+leastLevels m = leastAmong (sign m) (m .levels)
 
 abbrev pub greatestLevels : System → ℕ
-greatestLevels m = greatest-levels (sign m) (m .levels)
+greatestLevels m = greatestAmong (sign m) (m .levels)
 
 -- the built-in trees for p lines of the least levels' height and for q lines of the greatest levels'
 abbrev pub builtLeast : System → ℕ → List ℕ
@@ -39,4 +39,4 @@ abbrev pub restrictedSet : System → ℕ → ℕ → List ℕ → List ℕ → 
 restrictedSet m a b u v = restricted (sets (m .lines)) (sign m) (query m) (m .levels) [] a b u v
 
 abbrev pub restrictedCount : System → List ℕ → List ℕ → ℕ
-restrictedCount m u v = restricted-queries (sign m) (m .levels) u v
+restrictedCount m u v = restrictedQueries (sign m) (m .levels) u v

@@ -5,7 +5,7 @@ ghost use mathlib.Core.Bool.{true, false};
 ghost use Prim.Native.Nat.{_+_, _<_, _≤_};
 ghost use lib.ListN.{length};
 ghost use Rattle.model.specs.System.{sign};
-ghost use Rattle.trees.specs.Built.{built, kids};
+ghost use Rattle.trees.specs.Built.{built, builtChildren};
 ghost use Rattle.routes.specs.Parts.{Held, Sized, Gives, systemIn, above, leastOf, greatestOf, restrictedFrom, queriesFrom, riseFrom, riseQueries, fallFrom, fallQueries};
 use super::step::Found;
 use super::step::bounded_step;
@@ -28,7 +28,7 @@ fn built_least(
     requires { ⌜ (p ≤ 64) × Sized q ⌝ }
     ensures { λ r. ⌜
         (let s = systemIn (now (file .entry)) m in
-        let us = kids p (leastOf s below) in
+        let us = builtChildren p (leastOf s below) in
         let v = built q (greatestOf s below) in
         Gives r (riseFrom s below (above m (below + 1) (now (xs .entry))) a b us v) (riseQueries s below us v)) ⌝ }
 {
@@ -64,7 +64,7 @@ fn built_greatest(
     ensures { λ r. ⌜
         (let s = systemIn (now (file .entry)) m in
         let u = built p (leastOf s below) in
-        let vs = kids q (greatestOf s below) in
+        let vs = builtChildren q (greatestOf s below) in
         Gives r (fallFrom s below (above m (below + 1) (now (xs .entry))) a b u vs) (fallQueries s below u vs)) ⌝ }
 {
     if q == 0 {

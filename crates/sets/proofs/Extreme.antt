@@ -7,7 +7,7 @@ use mathlib.Core.Path.{_≡_, refl, sym, _∙_}
 use Prim.Native.Nat.{ℕ, zero, suc, _^_, _<_}
 use native.Mathlib.Nat.{not-suc-le-zero, le-of-suc-le-suc, eq-or-lt-of-le}
 use Rattle.sets.specs.Set.{full, union, intersection, isWithin}
-use Rattle.sets.specs.Extreme.{meet-closed, join-open, leastFixed, greatestFixed}
+use Rattle.sets.specs.Extreme.{meetPreFixed, joinPostFixed, leastFixed, greatestFixed}
 use Rattle.sets.proofs.Order.{_⊑_, refl⊑, trans⊑, antisym⊑, meet-left, meet-right, meet-glb, join-left, join-right, join-lub, empty-least, within-le, le-within}
 use Rattle.sets.proofs.Range.{full-below}
 
@@ -105,17 +105,17 @@ module _ (n : ℕ) (g : ℕ → ℕ) (monotone : (x y : ℕ) → x ⊑ y → g x
   open-cut y c = (y, full-below n y (trans⊑ y (g y) (full n) c (bounded y)), c, refl⊑ y)
 
   pub least-fixed : g (leastFixed n g) ≡ leastFixed n g
-  unfolding meet-closed
-  least-fixed = extreme-fixed inward g (meet-closed n g) (λ m. refl) (2 ^ n) monotone bounded closed-cut
+  unfolding meetPreFixed
+  least-fixed = extreme-fixed inward g (meetPreFixed n g) (λ m. refl) (2 ^ n) monotone bounded closed-cut
 
   pub least-least : (y : ℕ) → g y ⊑ y → leastFixed n g ⊑ y
-  unfolding meet-closed
-  least-least = extreme-below inward g (meet-closed n g) (λ m. refl) (2 ^ n) monotone bounded closed-cut
+  unfolding meetPreFixed
+  least-least = extreme-below inward g (meetPreFixed n g) (λ m. refl) (2 ^ n) monotone bounded closed-cut
 
   pub greatest-fixed : g (greatestFixed n g) ≡ greatestFixed n g
-  unfolding join-open
-  greatest-fixed = extreme-fixed outward g (join-open n g) (λ m. refl) (2 ^ n) (λ x y. monotone y x) (λ x. empty-least (g x)) open-cut
+  unfolding joinPostFixed
+  greatest-fixed = extreme-fixed outward g (joinPostFixed n g) (λ m. refl) (2 ^ n) (λ x y. monotone y x) (λ x. empty-least (g x)) open-cut
 
   pub greatest-greatest : (y : ℕ) → y ⊑ g y → y ⊑ greatestFixed n g
-  unfolding join-open
-  greatest-greatest = extreme-below outward g (join-open n g) (λ m. refl) (2 ^ n) (λ x y. monotone y x) (λ x. empty-least (g x)) open-cut
+  unfolding joinPostFixed
+  greatest-greatest = extreme-below outward g (joinPostFixed n g) (λ m. refl) (2 ^ n) (λ x y. monotone y x) (λ x. empty-least (g x)) open-cut

@@ -7,18 +7,18 @@ use Prim.Native.Nat.{ℕ, zero, suc, _+_, _/_, _≤_}
 use native.Mathlib.Nat.{le-refl}
 use native.Mathlib.Omega.{arith}
 use Rattle.trees.specs.Tree.{children, grow, leaves, IsTree, leaf}
-use Rattle.trees.specs.Built.{built-children, built, kids, leafCount}
+use Rattle.trees.specs.Built.{halvedChildren, built, builtChildren, leafCount}
 use Rattle.trees.proofs.Children.{Trees, none, more, trees-append, total, total-append, Some, append-some, of-some, children-grow, grow-leaves, grow-tree}
 
 module _ (below : ℕ → List ℕ) where
-  no-children : (m : ℕ) → built-children m below zero ≡ []
-  unfolding built-children
+  no-children : (m : ℕ) → halvedChildren m below zero ≡ []
+  unfolding halvedChildren
   no-children zero = refl
   no-children (suc m) = refl
 
   -- two bounds of n or more give the same children
-  same : (m k n : ℕ) → n ≤ m → n ≤ k → built-children m below n ≡ built-children k below n
-  unfolding built-children
+  same : (m k n : ℕ) → n ≤ m → n ≤ k → halvedChildren m below n ≡ halvedChildren k below n
+  unfolding halvedChildren
   same zero k zero p q = sym (no-children k)
   same zero k (suc n) p q = absurd (omega arith)
   same (suc m) k zero p q = sym (no-children k)
@@ -27,50 +27,50 @@ module _ (below : ℕ → List ℕ) where
       cc (same m k (suc n / 2) (omega arith) (omega arith), same m k (n / 2) (omega arith) (omega arith))
 
   -- n itself is bound enough
-  pub enough : (m n : ℕ) → n ≤ m → built-children m below n ≡ built-children n below n
+  pub enough : (m n : ℕ) → n ≤ m → halvedChildren m below n ≡ halvedChildren n below n
   enough m n p = same m n n p (le-refl n)
 
   -- the children are trees where `below` gives trees
-  built-children-trees : (h : ℕ) → ((n : ℕ) → IsTree h (below (suc n))) → (m n : ℕ) → Trees h (built-children m below n)
-  unfolding built-children
-  built-children-trees h is zero n = none
-  built-children-trees h is (suc m) zero = none
-  built-children-trees h is (suc m) (suc n) =
-      trees-append (built-children-trees h is m _) (more (is n) (built-children-trees h is m _))
+  halved-trees : (h : ℕ) → ((n : ℕ) → IsTree h (below (suc n))) → (m n : ℕ) → Trees h (halvedChildren m below n)
+  unfolding halvedChildren
+  halved-trees h is zero n = none
+  halved-trees h is (suc m) zero = none
+  halved-trees h is (suc m) (suc n) =
+      trees-append (halved-trees h is m _) (more (is n) (halved-trees h is m _))
 
 -- S(0, h) has no children
-pub kids-zero : (h : ℕ) → kids 0 h ≡ []
-unfolding built-children
-kids-zero h = refl
+pub built-children-zero : (h : ℕ) → builtChildren 0 h ≡ []
+unfolding halvedChildren
+built-children-zero h = refl
 
 -- the children of S(n, h) are those of S(n/2, h), then S(n, h - 1), then those of S((n - 1)/2, h)
-pub kids-step : (n h : ℕ) → kids (suc n) h ≡ kids (suc n / 2) h ++ built (suc n) h ∷ kids (n / 2) h
-unfolding built-children
-kids-step n h =
+pub built-children-step : (n h : ℕ) → builtChildren (suc n) h ≡ builtChildren (suc n / 2) h ++ built (suc n) h ∷ builtChildren (n / 2) h
+unfolding halvedChildren
+built-children-step n h =
     cc (enough (λ m. built m h) n (suc n / 2) (omega arith), enough (λ m. built m h) n (n / 2) (omega arith))
 
-pub kids-some : (n h : ℕ) → Some (kids (suc n) h)
-kids-some n h = rw (kids-step n h) (append-some (kids (suc n / 2) h) (built (suc n) h) (kids (n / 2) h))
+pub built-children-some : (n h : ℕ) → Some (builtChildren (suc n) h)
+built-children-some n h = rw (built-children-step n h) (append-some (builtChildren (suc n / 2) h) (built (suc n) h) (builtChildren (n / 2) h))
 
 pub built-tree : (n h : ℕ) → IsTree h (built (suc n) h)
 unfolding built
 built-tree n zero = leaf
 built-tree n (suc h) =
-    of-some (λ ts. Trees h ts → IsTree (suc h) (grow (suc h) ts)) (grow-tree h) (kids-some n h)
-    (built-children-trees (λ m. built m h) h (λ k. built-tree k h) (suc n) (suc n))
+    of-some (λ ts. Trees h ts → IsTree (suc h) (grow (suc h) ts)) (grow-tree h) (built-children-some n h)
+    (halved-trees (λ m. built m h) h (λ k. built-tree k h) (suc n) (suc n))
 
-pub kids-trees : (n h : ℕ) → Trees h (kids n h)
-kids-trees n h = built-children-trees (λ m. built m h) h (λ k. built-tree k h) n n
+pub built-children-trees : (n h : ℕ) → Trees h (builtChildren n h)
+built-children-trees n h = halved-trees (λ m. built m h) h (λ k. built-tree k h) n n
 
-pub children-built : (n h : ℕ) → children (suc h) (built (suc n) (suc h)) ≡ kids (suc n) h
+pub children-built : (n h : ℕ) → children (suc h) (built (suc n) (suc h)) ≡ builtChildren (suc n) h
 unfolding built
 children-built n h =
-    of-some (λ ts. Trees h ts → children (suc h) (grow (suc h) ts) ≡ ts) (children-grow h) (kids-some n h) (kids-trees (suc n) h)
+    of-some (λ ts. Trees h ts → children (suc h) (grow (suc h) ts) ≡ ts) (children-grow h) (built-children-some n h) (built-children-trees (suc n) h)
 
-pub total-kids : (n h : ℕ) → total (kids n h) ≡ leafCount n (suc h)
-unfolding built leafCount total built-children
-total-kids zero h = refl
-total-kids (suc n) h = sym (of-some (λ ts. leaves (grow (suc h) ts) ≡ total ts) (grow-leaves (suc h)) (kids-some n h))
+pub total-built-children : (n h : ℕ) → total (builtChildren n h) ≡ leafCount n (suc h)
+unfolding built leafCount total halvedChildren
+total-built-children zero h = refl
+total-built-children (suc n) h = sym (of-some (λ ts. leaves (grow (suc h) ts) ≡ total ts) (grow-leaves (suc h)) (built-children-some n h))
 
 -- the leaf counts, by the same halves
 
@@ -87,9 +87,9 @@ unfolding total leafCount
 leaf-step n h =
     omega (
       arith,
-      total-kids (suc n) h,
-      ap total (kids-step n h),
-      total-append (kids (suc n / 2) h) (built (suc n) h ∷ kids (n / 2) h),
-      total-kids (suc n / 2) h,
-      total-kids (n / 2) h,
+      total-built-children (suc n) h,
+      ap total (built-children-step n h),
+      total-append (builtChildren (suc n / 2) h) (built (suc n) h ∷ builtChildren (n / 2) h),
+      total-built-children (suc n / 2) h,
+      total-built-children (n / 2) h,
     )

@@ -8,7 +8,7 @@ use native.Mathlib.Decide.{decLe}
 use native.Mathlib.Omega.{arith}
 use Rattle.trees.specs.Tree.{children, leaves}
 use Rattle.trees.specs.Fit.{Placed, done, here, skip, FitsIn, Universal}
-use Rattle.trees.specs.Built.{built-children, built}
+use Rattle.trees.specs.Built.{halvedChildren, built}
 use Rattle.trees.proofs.Children.{Trees, more, trees-front, trees-back, total, total-append, children-trees, children-total}
 use Rattle.trees.proofs.Built.{children-built}
 
@@ -71,8 +71,8 @@ room-step h n us u vs before at after ts = by (split (suc n / 2) ts)
         placed-append (before ts (trees-front ts (t ∷ rest) is) low) (last ts t rest high q (trees-back ts (t ∷ rest) is))
 
 -- the children that are built of universal trees have places for any trees with at most n leaves together
-room-built : (h : ℕ) (below : ℕ → List ℕ) → ((n : ℕ) → Universal (suc n) h (below (suc n))) → (m n : ℕ) → n ≤ m → RoomFor h n (built-children m below n)
-unfolding built-children
+room-built : (h : ℕ) (below : ℕ → List ℕ) → ((n : ℕ) → Universal (suc n) h (below (suc n))) → (m n : ℕ) → n ≤ m → RoomFor h n (halvedChildren m below n)
+unfolding halvedChildren
 room-built h below at zero n p = λ ts is q. room-none h ts is (omega arith)
 room-built h below at (suc m) zero p = room-none h
 room-built h below at (suc m) (suc n) p =

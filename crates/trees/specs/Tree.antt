@@ -16,14 +16,14 @@ pub data IsTree (h : ℕ) : List ℕ → Type 0 where
   gap : {g : ℕ} {gs : List ℕ} → 1 ≤ g → g ≤ h → IsTree h gs → IsTree h (g ∷ gs)
 
 -- g in front of the first of some gap lists
-abbrev pub onto-first : ℕ → List (List ℕ) → List (List ℕ)
-onto-first g [] = (g ∷ []) ∷ []
-onto-first g (p ∷ ps) = (g ∷ p) ∷ ps
+abbrev pub ontoFirst : ℕ → List (List ℕ) → List (List ℕ)
+ontoFirst g [] = (g ∷ []) ∷ []
+ontoFirst g (p ∷ ps) = (g ∷ p) ∷ ps
 
 -- the root's children, for a tree of height h: the parts between gaps equal to h
 unfoldable pub children : ℕ → List ℕ → List (List ℕ)
 children h [] = [] ∷ []
-children h (g ∷ gs) = cond (eqb g h) ([] ∷ children h gs) (onto-first g (children h gs))
+children h (g ∷ gs) = cond (eqb g h) ([] ∷ children h gs) (ontoFirst g (children h gs))
 
 -- the tree of height h with these children
 unfoldable pub grow : ℕ → List (List ℕ) → List ℕ

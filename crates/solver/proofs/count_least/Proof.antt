@@ -7,7 +7,7 @@ use native.Mathlib.Numerals.{add-one}
 use native.Mathlib.Omega.{arith}
 use borrow.Author.Tests.{not-true, not-false}
 use denote.Ref.{now}
-use Rattle.fixpoint.specs.Levels.{least-levels}
+use Rattle.fixpoint.specs.Levels.{leastAmong}
 use Rattle.fixpoint.proofs.Levels.{least-at-least, least-at-greatest}
 use Rattle.model.specs.System.{sign}
 use Rattle.routes.specs.Parts.{systemIn, leastOf}
@@ -22,7 +22,7 @@ abbrev μ-loop : tie.MeasureT-loop
 μ-loop file m d least₀ k₀ least k = d - k
 
 loop-holds : tie.Need-loop-holds Inv-loop μ-loop
-unfolding least-levels
+unfolding leastAmong
 loop-holds c = (omega arith, omega arith, refl)
 
 is-greatest-requires : tie.Need-is-greatest-requires Inv-loop μ-loop

@@ -11,10 +11,10 @@ use borrow.Fn.Kinds.{In}
 use borrow.Fn.PlainCycle.{Measures, is, falls, and}
 use denote.Ref.{now}
 use Rattle.routes.specs.Parts.{systemIn}
-use Rattle.routes.proofs.Walk.{then}
+use Rattle.routes.proofs.OverChildren.{then}
 use Rattle.routes.proofs.Levels.{no-level}
-use Rattle.routes.proofs.Few.{FewQueries}
-use Rattle.routes.proofs.Halves.{LeastBuilt, GreatestBuilt, least-zero, greatest-zero, least-built, greatest-built, least-halves, greatest-halves}
+use Rattle.routes.proofs.QueryBound.{FewQueries}
+use Rattle.routes.proofs.BuiltLevels.{LeastBuilt, GreatestBuilt, least-zero, greatest-zero, least-built, greatest-built, least-halves, greatest-halves}
 use Rattle.routes.proofs.built_route.built_greatest.Reads as greatest
 use Rattle.routes.proofs.built_route.built_greatest.Kinds as greatest-kinds
 use Rattle.routes.proofs.built_route.+built_greatest+built_least+built_level.Lts-built_greatest as greatest-lts

@@ -12,11 +12,11 @@ use borrow.Fn.PlainCycle.{Measures, is, falls, and}
 use denote.Ref.{now}
 use Rattle.trees.specs.Tree.{children}
 use Rattle.routes.specs.Parts.{systemIn}
-use Rattle.routes.proofs.Walk.{then}
+use Rattle.routes.proofs.OverChildren.{then}
 use Rattle.routes.proofs.Levels.{LeastGives, GreatestGives, no-level, least-heights, greatest-heights, least-level, greatest-level}
-use Rattle.routes.proofs.Few.{FewQueries}
-use Rattle.routes.proofs.Gaps.{front-lent, after-lent, after-shorter}
-use Rattle.routes.proofs.Cuts.{least-last, greatest-last, least-more, greatest-more}
+use Rattle.routes.proofs.QueryBound.{FewQueries}
+use Rattle.routes.proofs.FirstChild.{front-lent, after-lent, after-shorter}
+use Rattle.routes.proofs.LentLevels.{least-last, greatest-last, least-more, greatest-more}
 use Rattle.routes.proofs.lent_route.lent_greatest.Reads as greatest
 use Rattle.routes.proofs.lent_route.lent_greatest.Kinds as greatest-kinds
 use Rattle.routes.proofs.lent_route.+lent_greatest+lent_least+lent_level.Lts-lent_greatest as greatest-lts

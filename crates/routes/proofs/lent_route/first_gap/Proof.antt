@@ -5,7 +5,7 @@ use native.Mathlib.Omega.{arith}
 use lib.ListN.{length}
 use borrow.Author.Count.{below-more}
 use borrow.Author.Needs.{needs}
-use Rattle.routes.proofs.Gaps.{NoneBefore}
+use Rattle.routes.proofs.FirstChild.{NoneBefore}
 use Rattle.routes.proofs.lent_route.first_gap.Statement.{statement}
 use Rattle.routes.proofs.lent_route.first_gap.Tie as tie
 

@@ -13,10 +13,10 @@ use Rattle.model.specs.System.{System, sign}
 use Rattle.model.specs.declared.layout.Model.{Model}
 use Rattle.routes.specs.declared.step.Found.{Found}
 use Rattle.routes.specs.Parts.{Gives, Lent, leastOf, greatestOf}
-use Rattle.routes.proofs.Walk.{then, Rises, rises-one, rises-cons}
+use Rattle.routes.proofs.OverChildren.{then, Rises, rises-one, rises-cons}
 use Rattle.routes.proofs.Levels.{LevelGives, LeastGives, GreatestGives, at-argument, least-heights, greatest-heights, least-level, greatest-level}
-use Rattle.routes.proofs.Few.{FewQueries, lent-few}
-use Rattle.routes.proofs.Gaps.{NoneBefore, after, cut-none, cut-first}
+use Rattle.routes.proofs.QueryBound.{FewQueries, lent-few}
+use Rattle.routes.proofs.FirstChild.{NoneBefore, after, cut-none, cut-first}
 
 -- a level over the children of a lent tree w of height h + 1, from the value a; r is what its first child gives
 module _ (p : ℕ → ℕ → ℕ → List ℕ → List ℕ → ℕ) (b : ℕ) (v : List ℕ) (count : List ℕ → ℕ)

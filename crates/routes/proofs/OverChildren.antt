@@ -6,7 +6,7 @@ use mathlib.Core.Path.{_≡_, refl, sym, _∙_, ap, ap₂}
 use Prim.Native.Nat.{ℕ, _+_}
 use native.Mathlib.Omega.{arith}
 use lib.Seq.{append-snoc}
-use Rattle.fixpoint.specs.Restricted.{rise, sum-over}
+use Rattle.fixpoint.specs.Restricted.{rise, sumOver}
 use Rattle.routes.specs.declared.step.Found.{Found}
 use Rattle.routes.specs.Parts.{Gives}
 
@@ -15,8 +15,8 @@ unfolding rise
 rise-append p b v a [] ws = refl
 rise-append p b v a (u ∷ us) ws = rise-append p b v (p a a b u v) us ws
 
-pub sum-append : (count : List ℕ → ℕ) (us ws : List (List ℕ)) → sum-over count (us ++ ws) ≡ sum-over count us + sum-over count ws
-unfolding sum-over
+pub sum-append : (count : List ℕ → ℕ) (us ws : List (List ℕ)) → sumOver count (us ++ ws) ≡ sumOver count us + sumOver count ws
+unfolding sumOver
 sum-append count [] ws = omega arith
 sum-append count (u ∷ us) ws = omega (arith, sum-append count us ws)
 
@@ -27,14 +27,14 @@ then r t = record { set = t .set; count = r .count + t .count }
 module _ (p : ℕ → ℕ → ℕ → List ℕ → List ℕ → ℕ) (b : ℕ) (v : List ℕ) (count : List ℕ → ℕ) where
   -- r is what the level gives over the children ws, from the value a
   abbrev pub Rises : Found → ℕ → List (List ℕ) → Type 0
-  Rises r a ws = Gives r (rise p b v a ws) (sum-over count ws)
+  Rises r a ws = Gives r (rise p b v a ws) (sumOver count ws)
 
   pub rises-none : (a : ℕ) → Rises (record { set = a; count = 0 }) a []
-  unfolding rise sum-over
+  unfolding rise sumOver
   rises-none a = record { value = refl; queries = refl }
 
   pub rises-one : (r : Found) (a : ℕ) (w : List ℕ) → Gives r (p a a b w v) (count w) → Rises r a (w ∷ [])
-  unfolding rise sum-over
+  unfolding rise sumOver
   rises-one r a w g = record { value = g .value; queries = omega arith }
 
   pub rises-append : (r t : Found) (a : ℕ) (us ws : List (List ℕ)) → Rises r a us → Rises t (r .set) ws → Rises (then r t) a (us ++ ws)

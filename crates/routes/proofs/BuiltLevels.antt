@@ -7,37 +7,37 @@ use Prim.Native.Nat.{ℕ, zero, suc, _-_, _/_, _≤_, _<_, _^_}
 use native.Mathlib.Omega.{arith}
 use lib.ListN.{length, set}
 use Rattle.trees.specs.Tree.{children}
-use Rattle.trees.specs.Built.{built, kids}
-use Rattle.trees.proofs.Built.{kids-zero, kids-step, children-built}
+use Rattle.trees.specs.Built.{built, builtChildren}
+use Rattle.trees.proofs.Built.{built-children-zero, built-children-step, children-built}
 use Rattle.fixpoint.proofs.Restricted.{fall-is-rise}
 use Rattle.model.specs.System.{System, sign}
 use Rattle.model.specs.declared.layout.Model.{Model}
 use Rattle.routes.specs.declared.step.Found.{Found}
 use Rattle.routes.specs.Parts.{Gives, Sized, leastOf, greatestOf}
-use Rattle.routes.proofs.Walk.{then, Rises, rises-none, rises-around}
+use Rattle.routes.proofs.OverChildren.{then, Rises, rises-none, rises-around}
 use Rattle.routes.proofs.Levels.{LevelGives, LeastGives, GreatestGives, at-argument, least-heights, greatest-heights, least-level, greatest-level}
-use Rattle.routes.proofs.Few.{FewQueries, built-few}
+use Rattle.routes.proofs.QueryBound.{FewQueries, built-few}
 
 -- the children of the built-in trees, for n of 1 or more
 
-children-kids : (n : ℕ) {h h′ : ℕ} → (n ≡ 0 → ⊥) → h′ ≡ suc h → children h′ (built n h′) ≡ kids n h
-children-kids zero p e = absurd (p refl)
-children-kids (suc n) {h} p e = rw e (children-built n h)
+children-of-built : (n : ℕ) {h h′ : ℕ} → (n ≡ 0 → ⊥) → h′ ≡ suc h → children h′ (built n h′) ≡ builtChildren n h
+children-of-built zero p e = absurd (p refl)
+children-of-built (suc n) {h} p e = rw e (children-built n h)
 
-kids-halves : (n h : ℕ) → (n ≡ 0 → ⊥) → kids n h ≡ kids (n / 2) h ++ built n h ∷ kids ((n - 1) / 2) h
-kids-halves zero h p = absurd (p refl)
-kids-halves (suc n) h p =
+built-children-halves : (n h : ℕ) → (n ≡ 0 → ⊥) → builtChildren n h ≡ builtChildren (n / 2) h ++ built n h ∷ builtChildren ((n - 1) / 2) h
+built-children-halves zero h p = absurd (p refl)
+built-children-halves (suc n) h p =
     let e : suc n - 1 ≡ n = omega arith in
-    rw e (kids-step n h)
+    rw e (built-children-step n h)
 
 -- a level over the children of S(n, h + 1), from the value a
 module _ (p : ℕ → ℕ → ℕ → List ℕ → List ℕ → ℕ) (b : ℕ) (v : List ℕ) (count : List ℕ → ℕ) (n h a : ℕ) where
-  rises-zero : n ≡ 0 → Rises p b v count (record { set = a; count = 0 }) a (kids n h)
-  rises-zero e = rw (e, kids-zero h) (rises-none p b v count a)
+  rises-zero : n ≡ 0 → Rises p b v count (record { set = a; count = 0 }) a (builtChildren n h)
+  rises-zero e = rw (e, built-children-zero h) (rises-none p b v count a)
 
-  rises-halves : (n ≡ 0 → ⊥) → (r m t : Found) → Rises p b v count r a (kids (n / 2) h) → Gives m (p (r .set) (r .set) b (built n h) v) (count (built n h)) → Rises p b v count t (m .set) (kids ((n - 1) / 2) h) → Rises p b v count (then (then r m) t) a (kids n h)
+  rises-halves : (n ≡ 0 → ⊥) → (r m t : Found) → Rises p b v count r a (builtChildren (n / 2) h) → Gives m (p (r .set) (r .set) b (built n h) v) (count (built n h)) → Rises p b v count t (m .set) (builtChildren ((n - 1) / 2) h) → Rises p b v count (then (then r m) t) a (builtChildren n h)
   rises-halves z r m t f g l =
-      rw (kids-halves n h z) (rises-around p b v count r m t a (kids (n / 2) h) (built n h) (kids ((n - 1) / 2) h) f g l)
+      rw (built-children-halves n h z) (rises-around p b v count r m t a (builtChildren (n / 2) h) (built n h) (builtChildren ((n - 1) / 2) h) f g l)
 
 -- what the levels give over S(p, h) and S(q, g), h and g being the least and the greatest of these levels
 module _ (s : System) (m : Model) (k : ℕ) (xs : List ℕ) (a b p q : ℕ) where
@@ -45,22 +45,22 @@ module _ (s : System) (m : Model) (k : ℕ) (xs : List ℕ) (a b p q : ℕ) wher
   LevelBuilt = LevelGives s m k xs a b (built p (leastOf s k)) (built q (greatestOf s k))
 
   abbrev pub LeastBuilt : Found → Type 0
-  LeastBuilt = LeastGives s m k xs a b (kids p (leastOf s k)) (built q (greatestOf s k))
+  LeastBuilt = LeastGives s m k xs a b (builtChildren p (leastOf s k)) (built q (greatestOf s k))
 
   abbrev pub GreatestBuilt : Found → Type 0
-  GreatestBuilt = GreatestGives s m k xs a b (built p (leastOf s k)) (kids q (greatestOf s k))
+  GreatestBuilt = GreatestGives s m k xs a b (built p (leastOf s k)) (builtChildren q (greatestOf s k))
 
 -- one level more
 module _ (s : System) {k j : ℕ} (next : k ≡ suc j) (m : Model) (xs : List ℕ) (a b p q : ℕ) (r : Found) where
   pub least-built : sign s j ≡ false → (p ≡ 0 → ⊥) → LeastBuilt s m j xs a b p q r → LevelBuilt s m k xs a b p q r
   least-built e z g =
       let h = least-heights s next e in
-      least-level s next m xs a b _ _ r e (rw (children-kids p z (h .0), h .1) g)
+      least-level s next m xs a b _ _ r e (rw (children-of-built p z (h .0), h .1) g)
 
   pub greatest-built : sign s j ≡ true → (q ≡ 0 → ⊥) → GreatestBuilt s m j xs a b p q r → LevelBuilt s m k xs a b p q r
   greatest-built e z g =
       let h = greatest-heights s next e in
-      greatest-level s next m xs a b _ _ r e (rw (children-kids q z (h .1), h .0) g)
+      greatest-level s next m xs a b _ _ r e (rw (children-of-built q z (h .1), h .0) g)
 
 module _ (s : System) (m : Model) (k : ℕ) (xs : List ℕ) (a b p q : ℕ) where
   pub least-zero : p ≡ 0 → LeastBuilt s m k xs a b p q (record { set = a; count = 0 })
