@@ -25,7 +25,7 @@ filled-refused {e = zero} new old h = absurd (omega arith)
 filled-refused {e = suc e} new old h = refl
 
 pub write-refused : (m : System) (buffer : List ℕ) (r : Refusal) → RefusedAs (writeNumber m (length buffer)) r → WriteSays m buffer (written.Refused r) buffer
-write-refused m buffer r h = record { answer = refused-answer h (made _); buffer-left = filled-refused (encode m) buffer (h .positive) }
+write-refused m buffer r h = record { answer = refused-answer h (made _); left = filled-refused (encode m) buffer (h .positive) }
 
 -- k has the system's counts, as they were handed on
 pub write-accepted :
@@ -38,7 +38,7 @@ write-accepted m buffer buffer′ k e bytes none sliced counts size wrote =
     let given = ap₂ (λ (i j : ℕ). systemOf i j (m .signs) (m .kinds) (m .words)) (counts .lines) (counts .levels) in
     record {
       answer = ap made (size ∙ sizes) ∙ sym (ap (λ (x : ℕ). unless x (made (fileLength (m .lines) (m .levels)))) none);
-      buffer-left =
+      left =
           wrote ∙ ap₂ (λ (s : System) (n : ℕ). encode s ++ drop n buffer) given (sizes ∙ sym (encode-length m sliced))
           ∙ sym (ap (λ (x : ℕ). filled x (encode m) buffer) none);
     }
@@ -49,9 +49,11 @@ pub read-refused :
 read-refused file signs kinds words a r is h =
     record {
       answer = ap readingAnswer is ∙ refused-answer h (sized (linesIn file) (levelsIn file));
-      signs-left = filled-refused (decode file .signs) signs (h .positive);
-      kinds-left = filled-refused (decode file .kinds) kinds (h .positive);
-      words-left = filled-refused (decode file .words) words (h .positive);
+      left = record {
+        signs-left = filled-refused (decode file .signs) signs (h .positive);
+        kinds-left = filled-refused (decode file .kinds) kinds (h .positive);
+        words-left = filled-refused (decode file .words) words (h .positive);
+      };
     }
 
 -- k has the file's counts, and the slices are filled with the sections that these counts give
@@ -66,7 +68,9 @@ read-accepted file signs kinds words signs′ kinds′ words′ k e none counts 
     let system = decoded file counts in
     record {
       answer = ap₂ sized (counts .lines) (counts .levels) ∙ sym (ap (λ (x : ℕ). unless x (sized (linesIn file) (levelsIn file))) none);
-      signs-left = signs-filled ∙ ap₂ (λ (x : ℕ) (s : System). filled x (s .signs) signs) (sym none) system;
-      kinds-left = kinds-filled ∙ ap₂ (λ (x : ℕ) (s : System). filled x (s .kinds) kinds) (sym none) system;
-      words-left = words-filled ∙ ap₂ (λ (x : ℕ) (s : System). filled x (s .words) words) (sym none) system;
+      left = record {
+        signs-left = signs-filled ∙ ap₂ (λ (x : ℕ) (s : System). filled x (s .signs) signs) (sym none) system;
+        kinds-left = kinds-filled ∙ ap₂ (λ (x : ℕ) (s : System). filled x (s .kinds) kinds) (sym none) system;
+        words-left = words-filled ∙ ap₂ (λ (x : ℕ) (s : System). filled x (s .words) words) (sym none) system;
+      };
     }

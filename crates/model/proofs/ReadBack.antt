@@ -67,9 +67,9 @@ module _ (file signs kinds words signs′ kinds′ words′ : List ℕ) (r : Rea
       let sliced = read-sliced file right in
       record {
         counts = read .answer ∙ ap (λ (e : ℕ). unless e (sized (linesIn file) (levelsIn file))) none;
-        signs-read = filled-front signs (read .signs-left) none (sliced .signs-long);
-        kinds-read = filled-front kinds (read .kinds-left) none (sliced .kinds-long);
-        words-read = filled-front words (read .words-left) none (sliced .words-long);
+        signs-read = filled-front signs (read .left .signs-left) none (sliced .signs-long);
+        kinds-read = filled-front kinds (read .left .kinds-left) none (sliced .kinds-long);
+        words-read = filled-front words (read .left .words-left) none (sliced .words-long);
       }
 
 -- Writing accepts a model. Reading the bytes that it made, into slices that are long enough, hands the model back.
@@ -81,7 +81,7 @@ pub written-then-read :
 written-then-read m buffer buffer′ w wrote ok below signs kinds words signs′ kinds′ words′ r read hs hk hw =
     let none : writeNumber m (length buffer) ≡ 0 = none-of _ _ _ (wrote .answer) refl ok in
     let fit = written-fits m (length buffer) none below in
-    let file = filled-front buffer (wrote .buffer-left) none (encode-length m (fit .sliced)) in
+    let file = filled-front buffer (wrote .left) none (encode-length m (fit .sliced)) in
     let right = written-right m (length buffer) none below in
     let lines = encode-lines m fit in
     let levels = encode-levels m fit in
@@ -105,5 +105,5 @@ read-then-written file signs kinds words signs′ kinds′ words′ r n d bytes 
       says .answer
           ∙ ap (λ (e : ℕ). unless e (made (fileLength (decode file .lines) (decode file .levels)))) accepts
           ∙ ap made (sym (read-length file right)),
-      filled-front buffer (says .buffer-left) accepts (ap length again) ∙ again,
+      filled-front buffer (says .left) accepts (ap length again) ∙ again,
     )

@@ -44,16 +44,24 @@ checkAnswer file = unless (fileNumber file) (sized (linesIn file) (levelsIn file
 abbrev pub readAnswer : List ℕ → ℕ → ℕ → ℕ → Answer
 readAnswer file signs kinds words = unless (readNumber file signs kinds words) (sized (linesIn file) (levelsIn file))
 
-pub record ReadSays (file signs kinds words : List ℕ) (r : Reading) (signs′ kinds′ words′ : List ℕ) : Type 0 where
-  pub answer : readingAnswer r ≡ readAnswer file (length signs) (length kinds) (length words)
+-- what it leaves in them
+pub record ReadLeaves (file signs kinds words signs′ kinds′ words′ : List ℕ) : Type 0 where
   pub signs-left : signs′ ≡ filled (readNumber file (length signs) (length kinds) (length words)) (decode file .signs) signs
   pub kinds-left : kinds′ ≡ filled (readNumber file (length signs) (length kinds) (length words)) (decode file .kinds) kinds
   pub words-left : words′ ≡ filled (readNumber file (length signs) (length kinds) (length words)) (decode file .words) words
+
+pub record ReadSays (file signs kinds words : List ℕ) (r : Reading) (signs′ kinds′ words′ : List ℕ) : Type 0 where
+  pub answer : readingAnswer r ≡ readAnswer file (length signs) (length kinds) (length words)
+  pub left : ReadLeaves file signs kinds words signs′ kinds′ words′
 
 -- writing a system into a buffer of `room` bytes
 abbrev pub writeAnswer : System → ℕ → Answer
 writeAnswer m room = unless (writeNumber m room) (made (fileLength (m .lines) (m .levels)))
 
+-- what it leaves in the buffer
+abbrev pub WriteLeaves : System → List ℕ → List ℕ → Type 0
+WriteLeaves m buffer buffer′ = buffer′ ≡ filled (writeNumber m (length buffer)) (encode m) buffer
+
 pub record WriteSays (m : System) (buffer : List ℕ) (r : Written) (buffer′ : List ℕ) : Type 0 where
   pub answer : writtenAnswer r ≡ writeAnswer m (length buffer)
-  pub buffer-left : buffer′ ≡ filled (writeNumber m (length buffer)) (encode m) buffer
+  pub left : WriteLeaves m buffer buffer′

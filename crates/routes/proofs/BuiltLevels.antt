@@ -13,7 +13,7 @@ use Rattle.fixpoint.proofs.Restricted.{fall-is-rise}
 use Rattle.model.specs.System.{System, sign}
 use Rattle.model.specs.declared.layout.Model.{Model}
 use Rattle.routes.specs.declared.step.Found.{Found}
-use Rattle.routes.specs.Parts.{Gives, Sized, leastOf, greatestOf}
+use Rattle.routes.specs.Parts.{Gives, LineCount, leastOf, greatestOf}
 use Rattle.routes.proofs.OverChildren.{then, Rises, rises-none, rises-around}
 use Rattle.routes.proofs.Levels.{LevelGives, LeastGives, GreatestGives, at-argument, least-heights, greatest-heights, least-level, greatest-level}
 use Rattle.routes.proofs.QueryBound.{FewQueries, built-few}
@@ -69,12 +69,12 @@ module _ (s : System) (m : Model) (k : ℕ) (xs : List ℕ) (a b p q : ℕ) wher
   pub greatest-zero : q ≡ 0 → GreatestBuilt s m k xs a b p q (record { set = b; count = 0 })
   greatest-zero e = rw fall-is-rise (rises-zero _ _ _ _ _ _ _ e)
 
-  few-built : k < 8 → Sized p → Sized q → (r : Found) → LevelBuilt s m (suc k) xs a b p q r → r .count ≤ 64 ^ 8
+  few-built : k < 8 → LineCount p → LineCount q → (r : Found) → LevelBuilt s m (suc k) xs a b p q r → r .count ≤ 64 ^ 8
   few-built h y z r g = rw (g .queries) (built-few s (suc k) p q h y z)
 
   -- what one half, the child in the middle and the other half give together
   module _ (few : m .levels ≤ 8) (room : m .levels ≤ length xs) (within : k < m .levels) (first middle last : Found) where
-    pub least-halves : sign s k ≡ false → (p ≡ 0 → ⊥) → p ≤ 64 → Sized q
+    pub least-halves : sign s k ≡ false → (p ≡ 0 → ⊥) → p ≤ 64 → LineCount q
         → LeastBuilt s m k xs a b (p / 2) q first → LevelBuilt s m k (set xs k (first .set)) (first .set) b p q middle → LeastBuilt s m k xs (middle .set) b ((p - 1) / 2) q last
         → FewQueries (LeastBuilt s m k xs a b p q) (then (then first middle) last)
     least-halves e z y w f g l =
@@ -82,7 +82,7 @@ module _ (s : System) (m : Model) (k : ℕ) (xs : List ℕ) (a b p q : ℕ) wher
         rises-halves _ _ _ _ _ _ _ z first middle last f (at-argument s m k xs _ _ _ _ middle (first .set) within room g) l in
         record { gives = all; few = few-built (omega arith) (omega arith, y) w _ (least-built s refl m xs a b p q _ e z all) }
 
-    pub greatest-halves : sign s k ≡ true → (q ≡ 0 → ⊥) → q ≤ 64 → Sized p
+    pub greatest-halves : sign s k ≡ true → (q ≡ 0 → ⊥) → q ≤ 64 → LineCount p
         → GreatestBuilt s m k xs a b p (q / 2) first → LevelBuilt s m k (set xs k (first .set)) a (first .set) p q middle → GreatestBuilt s m k xs a (middle .set) p ((q - 1) / 2) last
         → FewQueries (GreatestBuilt s m k xs a b p q) (then (then first middle) last)
     greatest-halves e z y w f g l =

@@ -13,7 +13,7 @@ use Rattle.fixpoint.proofs.Levels.{levels-sum}
 use Rattle.fixpoint.proofs.Queries.{queries-product}
 use Rattle.model.specs.System.{System, sign}
 use Rattle.routes.specs.declared.step.Found.{Found}
-use Rattle.routes.specs.Parts.{leastOf, greatestOf, queriesFrom, Sized, Lent}
+use Rattle.routes.specs.Parts.{leastOf, greatestOf, queriesFrom, LineCount, Lent}
 
 -- what a level gives, in few queries
 pub record FewQueries (Given : Found → Type 0) (r : Found) : Type 0 where
@@ -51,16 +51,16 @@ leaf-few (suc h) n q =
 
 -- over built-in trees for up to 64 lines, at most 8 levels high together
 
-sized-tree : (n h : ℕ) → Sized n → IsTree h (built n h)
+sized-tree : (n h : ℕ) → LineCount n → IsTree h (built n h)
 sized-tree zero h z = absurd (omega arith)
 sized-tree (suc n) h z = built-tree n h
 
-sized-few : (n h : ℕ) → Sized n → leaves (built n h) ≤ 64 ^ h
+sized-few : (n h : ℕ) → LineCount n → leaves (built n h) ≤ 64 ^ h
 unfolding leafCount
 sized-few zero h z = absurd (omega arith)
 sized-few (suc n) h z = leaf-few h (suc n) (z .1)
 
-pub built-few : (s : System) (k p q : ℕ) → k ≤ 8 → Sized p → Sized q → queriesFrom s k (built p (leastOf s k)) (built q (greatestOf s k)) ≤ 64 ^ 8
+pub built-few : (s : System) (k p q : ℕ) → k ≤ 8 → LineCount p → LineCount q → queriesFrom s k (built p (leastOf s k)) (built q (greatestOf s k)) ≤ 64 ^ 8
 built-few s k p q h y z =
     let i = leastOf s k in
     let j = greatestOf s k in

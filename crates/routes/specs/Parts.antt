@@ -75,8 +75,8 @@ pub record Gives (r : Found) (set count : ℕ) : Type 0 where
   pub queries : r .count ≡ count
 
 -- numbers of lines that a built-in tree may be asked for
-abbrev pub Sized : ℕ → Type 0
-Sized n = (1 ≤ n) × (n ≤ 64)
+abbrev pub LineCount : ℕ → Type 0
+LineCount n = (1 ≤ n) × (n ≤ 64)
 
 -- gaps of a tree of height h, as many as may be lent
 pub record Lent (h : ℕ) (gaps : List ℕ) : Type 0 where

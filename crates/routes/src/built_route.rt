@@ -6,7 +6,7 @@ ghost use Prim.Native.Nat.{_+_, _<_, _≤_};
 ghost use lib.ListN.{length};
 ghost use Rattle.model.specs.System.{sign};
 ghost use Rattle.trees.specs.Built.{built, builtChildren};
-ghost use Rattle.routes.specs.Parts.{Held, Sized, Gives, systemIn, above, leastOf, greatestOf, restrictedFrom, queriesFrom, riseFrom, riseQueries, fallFrom, fallQueries};
+ghost use Rattle.routes.specs.Parts.{Held, LineCount, Gives, systemIn, above, leastOf, greatestOf, restrictedFrom, queriesFrom, riseFrom, riseQueries, fallFrom, fallQueries};
 use super::step::Found;
 use super::step::bounded_step;
 use super::step::is_greatest;
@@ -25,7 +25,7 @@ fn built_least(
 ) -> Found
     requires { ⌜ Held (now file) m × (m .levels ≤ length (now xs)) ⌝ }
     requires { ⌜ (below < m .levels) × (sign (systemIn (now file) m) below ≡ false) ⌝ }
-    requires { ⌜ (p ≤ 64) × Sized q ⌝ }
+    requires { ⌜ (p ≤ 64) × LineCount q ⌝ }
     ensures { λ r. ⌜
         (let s = systemIn (now (file .entry)) m in
         let us = builtChildren p (leastOf s below) in
@@ -60,7 +60,7 @@ fn built_greatest(
 ) -> Found
     requires { ⌜ Held (now file) m × (m .levels ≤ length (now xs)) ⌝ }
     requires { ⌜ (below < m .levels) × (sign (systemIn (now file) m) below ≡ true) ⌝ }
-    requires { ⌜ Sized p × (q ≤ 64) ⌝ }
+    requires { ⌜ LineCount p × (q ≤ 64) ⌝ }
     ensures { λ r. ⌜
         (let s = systemIn (now (file .entry)) m in
         let u = built p (leastOf s below) in
@@ -95,7 +95,7 @@ pub fn built_level(
 ) -> Found
     requires { ⌜ Held (now file) m × (m .levels ≤ length (now xs)) ⌝ }
     requires { ⌜ k ≤ m .levels ⌝ }
-    requires { ⌜ Sized p × Sized q ⌝ }
+    requires { ⌜ LineCount p × LineCount q ⌝ }
     ensures { λ r. ⌜
         (let s = systemIn (now (file .entry)) m in
         let u = built p (leastOf s k) in

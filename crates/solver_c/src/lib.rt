@@ -4,9 +4,7 @@ ghost use lib.ListN.{length};
 ghost use Rattle.answers.specs.Answer.{refusal, numberOf};
 ghost use Rattle.trees.specs.Count.{countedAnswer, leafCountAnswer};
 ghost use Rattle.model.specs.System.{systemOf};
-ghost use Rattle.model.specs.File.{decode, encode};
-ghost use Rattle.model.specs.Checks.{readNumber, writeNumber};
-ghost use Rattle.model.specs.Says.{filled, readingAnswer, writtenAnswer, readAnswer, writeAnswer};
+ghost use Rattle.model.specs.Says.{readingAnswer, writtenAnswer, readAnswer, writeAnswer, ReadLeaves, WriteLeaves};
 ghost use Rattle.solver.specs.Says.{queriedAnswer, judgedAnswer, queryAnswer, plainAnswer, builtAnswer, lentAnswer};
 ghost use Rattle.solver_c.specs.Words.{sixWords};
 use answers::Refusal;
@@ -89,9 +87,7 @@ pub extern "C" fn solver_read(
     answer: &mut [u64; 6],
 )
     ensures { λ _. ⌜ now (answer .exit) ≡ sixWords (readAnswer (now (file .entry)) (length (now (signs .entry))) (length (now (kinds .entry))) (length (now (words .entry)))) ⌝ }
-    ensures { λ _. ⌜ now (signs .exit) ≡ filled (readNumber (now (file .entry)) (length (now (signs .entry))) (length (now (kinds .entry))) (length (now (words .entry)))) (decode (now (file .entry)) .signs) (now (signs .entry)) ⌝ }
-    ensures { λ _. ⌜ now (kinds .exit) ≡ filled (readNumber (now (file .entry)) (length (now (signs .entry))) (length (now (kinds .entry))) (length (now (words .entry)))) (decode (now (file .entry)) .kinds) (now (kinds .entry)) ⌝ }
-    ensures { λ _. ⌜ now (words .exit) ≡ filled (readNumber (now (file .entry)) (length (now (signs .entry))) (length (now (kinds .entry))) (length (now (words .entry)))) (decode (now (file .entry)) .words) (now (words .entry)) ⌝ }
+    ensures { λ _. ⌜ ReadLeaves (now (file .entry)) (now (signs .entry)) (now (kinds .entry)) (now (words .entry)) (now (signs .exit)) (now (kinds .exit)) (now (words .exit)) ⌝ }
 {
     put_reading(answer, model::read(file, signs, kinds, words));
 }
@@ -107,7 +103,7 @@ pub extern "C" fn solver_write(
     answer: &mut [u64; 6],
 )
     ensures { λ _. ⌜ now (answer .exit) ≡ sixWords (writeAnswer (systemOf n d (now (signs .entry)) (now (kinds .entry)) (now (words .entry))) (length (now (buffer .entry)))) ⌝ }
-    ensures { λ _. ⌜ now (buffer .exit) ≡ filled (writeNumber (systemOf n d (now (signs .entry)) (now (kinds .entry)) (now (words .entry))) (length (now (buffer .entry)))) (encode (systemOf n d (now (signs .entry)) (now (kinds .entry)) (now (words .entry)))) (now (buffer .entry)) ⌝ }
+    ensures { λ _. ⌜ WriteLeaves (systemOf n d (now (signs .entry)) (now (kinds .entry)) (now (words .entry))) (now (buffer .entry)) (now (buffer .exit)) ⌝ }
 {
     put_written(answer, model::write(n, d, signs, kinds, words, buffer));
 }

@@ -9,7 +9,7 @@ use Rattle.model.specs.File.{linesIn, levelsIn, decode}
 use Rattle.model.specs.declared.layout.Model.{Model}
 use Rattle.model.specs.declared.layout.Reading.the-variants as reading
 use Rattle.model.proofs.Accepted.{checked}
-use Rattle.routes.specs.Parts.{Held, Sized, systemIn}
+use Rattle.routes.specs.Parts.{Held, LineCount, systemIn}
 use Rattle.view.specs.View.{InUse}
 use Rattle.view.specs.declared.View.{View}
 
@@ -19,7 +19,7 @@ countsOf n d = record { lines = n; levels = d }
 
 pub record Used (file : List ℕ) (n d : ℕ) : Type 0 where
   pub held : Held file (countsOf n d)
-  pub sized-lines : Sized n
+  pub sized-lines : LineCount n
   pub system : systemIn file (countsOf n d) ≡ decode file
   pub lines-are : n ≡ linesIn file
   pub levels-are : d ≡ levelsIn file

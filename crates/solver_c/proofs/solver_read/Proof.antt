@@ -24,7 +24,7 @@ same-length-3 c = search needs
 returns : tie.Need-returns
 returns c =
     let read = c .before .before .before .before .before .before .before .read .ensures in
-    (c .put-reading .ensures ∙ ap sixWords (read .answer), (read .signs-left, (read .kinds-left, read .words-left)))
+    (c .put-reading .ensures ∙ ap sixWords (read .answer), read .left)
 
 pub solver-read-spec : {M : Type 1} → statement M
 solver-read-spec =

@@ -18,7 +18,7 @@ same-length c = search needs
 returns : tie.Need-returns
 returns c =
     let wrote = c .before .before .before .write .ensures in
-    (c .put-written .ensures ∙ ap sixWords (wrote .answer), wrote .buffer-left)
+    (c .put-written .ensures ∙ ap sixWords (wrote .answer), wrote .left)
 
 pub solver-write-spec : {M : Type 1} → statement M
 solver-write-spec = tie.close (tie.spec write-requires put-written-requires same-length returns)
