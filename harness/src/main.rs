@@ -46,45 +46,45 @@ fn median(mut times: Vec<f64>) -> f64 {
     times[times.len() / 2]
 }
 
-/// The seconds that one judgement took, of so many calls for each of the models.
-fn timed(calls: usize, models: &[Subject], judge: &dyn Fn(&Subject) -> Answer) -> f64 {
+/// The seconds that so many judgements of a model take.
+fn timed(calls: usize, model: &Subject, judge: &dyn Fn(&Subject) -> Answer) -> f64 {
     let start = Instant::now();
-    for model in models {
-        for _ in 0..calls {
-            black_box(judge(model));
-        }
+    for _ in 0..calls {
+        black_box(judge(model));
     }
-    start.elapsed().as_secs_f64() / (calls * models.len()) as f64
+    start.elapsed().as_secs_f64()
 }
 
-/// Calls both in turn. What takes long is repeated less, but is called three times at the least.
+/// Calls both in turn, model by model, so that a machine that slows down for a while slows both. What takes long is repeated
+/// less, but five times at the least.
 fn measure(
     effort: Effort,
     models: &[Subject],
     engine: &dyn Fn(&Subject) -> Answer,
     rust: &dyn Fn(&Subject) -> Answer,
 ) -> Times {
-    let once = timed(1, models, engine) * models.len() as f64;
+    let once: f64 = models.iter().map(|model| timed(1, model, engine)).sum();
     let calls = (effort.seconds / once).ceil() as usize;
-    let samples = match once {
-        s if s > 0.5 => 3,
-        s if s > 0.05 => 5,
-        _ => effort.samples,
-    };
-    let (mut engine_times, mut rust_times) = (Vec::new(), Vec::new());
-    while engine_times.len() < samples {
-        // The other one first every other time.
-        if engine_times.len() % 2 == 0 {
-            engine_times.push(timed(calls, models, engine));
-            rust_times.push(timed(calls, models, rust));
-        } else {
-            rust_times.push(timed(calls, models, rust));
-            engine_times.push(timed(calls, models, engine));
+    let samples = if once > 0.05 { 5 } else { effort.samples };
+    let (mut engine_times, mut rust_times, mut ratios) = (Vec::new(), Vec::new(), Vec::new());
+    for sample in 0..samples {
+        let (mut engine_time, mut rust_time) = (0.0, 0.0);
+        for (i, model) in models.iter().enumerate() {
+            // The other one first every other time.
+            if (sample + i) % 2 == 0 {
+                engine_time += timed(calls, model, engine);
+                rust_time += timed(calls, model, rust);
+            } else {
+                rust_time += timed(calls, model, rust);
+                engine_time += timed(calls, model, engine);
+            }
         }
+        let judgements = (calls * models.len()) as f64;
+        engine_times.push(engine_time / judgements);
+        rust_times.push(rust_time / judgements);
+        ratios.push(engine_time / rust_time);
     }
-    // The ratio of neighbours in time: a machine that slows down in between slows both.
-    let ratio = median(engine_times.iter().zip(&rust_times).map(|(engine, rust)| engine / rust).collect());
-    Times { engine: median(engine_times), rust: median(rust_times), ratio }
+    Times { engine: median(engine_times), rust: median(rust_times), ratio: median(ratios) }
 }
 
 #[derive(Clone, Copy, Debug, PartialEq)]
