@@ -147,9 +147,34 @@ fn plain_level(m: Model, a: u64, b: u64, k: usize, xs: &[u64; 8], left: u64) -> 
     }
 }
 
+// ---- the innermost level: its tree's children are leaves, one query each ----
+
+fn innermost_least(m: Model, xs: &[u64; 8], a: u64, b: u64, leaves: usize) -> Found {
+    let mut ys = *xs;
+    let mut x = a;
+    for _ in 0..leaves {
+        ys[0] = x;
+        x = m.bounded_step(x, b, &ys);
+    }
+    Found { set: x, count: leaves as u64 }
+}
+
+fn innermost_greatest(m: Model, xs: &[u64; 8], a: u64, b: u64, leaves: usize) -> Found {
+    let mut ys = *xs;
+    let mut x = b;
+    for _ in 0..leaves {
+        ys[0] = x;
+        x = m.bounded_step(a, x, &ys);
+    }
+    Found { set: x, count: leaves as u64 }
+}
+
 // ---- built-in trees: none is stored, the halves of S(p, h) are ----
 
 fn built_least(m: Model, below: usize, xs: &[u64; 8], a: u64, b: u64, p: usize, q: usize) -> Found {
+    if below == 0 {
+        return innermost_least(m, xs, a, b, p);
+    }
     if p == 0 {
         return Found { set: a, count: 0 };
     }
@@ -162,6 +187,9 @@ fn built_least(m: Model, below: usize, xs: &[u64; 8], a: u64, b: u64, p: usize, 
 }
 
 fn built_greatest(m: Model, below: usize, xs: &[u64; 8], a: u64, b: u64, p: usize, q: usize) -> Found {
+    if below == 0 {
+        return innermost_greatest(m, xs, a, b, q);
+    }
     if q == 0 {
         return Found { set: b, count: 0 };
     }
@@ -208,6 +236,9 @@ impl<'a> Lent<'a> {
 }
 
 fn lent_least(m: Model, below: usize, xs: &[u64; 8], a: u64, b: u64, u: Lent, v: Lent) -> Found {
+    if below == 0 {
+        return innermost_least(m, xs, a, b, u.gaps.len() + 1);
+    }
     let (child, others) = u.split();
     let mut ys = *xs;
     ys[below] = a;
@@ -220,6 +251,9 @@ fn lent_least(m: Model, below: usize, xs: &[u64; 8], a: u64, b: u64, u: Lent, v:
 }
 
 fn lent_greatest(m: Model, below: usize, xs: &[u64; 8], a: u64, b: u64, u: Lent, v: Lent) -> Found {
+    if below == 0 {
+        return innermost_greatest(m, xs, a, b, v.gaps.len() + 1);
+    }
     let (child, others) = v.split();
     let mut ys = *xs;
     ys[below] = b;

@@ -1,14 +1,15 @@
 -- The levels over built-in trees: a level over the children of S(n, h) is worked out by halves, and makes few queries.
 -- Assumes nothing.
 use mathlib.Core.Bool.{true, false}
-use mathlib.Core.List.{List, _∷_, _++_}
+use mathlib.Core.List.{List, [], _∷_, _++_}
 use mathlib.Core.Path.{_≡_, refl}
 use Prim.Native.Nat.{ℕ, zero, suc, _-_, _/_, _≤_, _<_, _^_}
 use native.Mathlib.Omega.{arith}
-use lib.ListN.{length, set}
+use lib.ListN.{length, set, replicate}
 use Rattle.trees.specs.Tree.{children}
 use Rattle.trees.specs.Built.{built, builtChildren}
-use Rattle.trees.proofs.Built.{built-children-zero, built-children-step, children-built}
+use Rattle.trees.proofs.Built.{built-children-zero, built-children-step, built-children-leaves, children-built}
+use Rattle.fixpoint.specs.Levels.{leastAmong, greatestAmong}
 use Rattle.fixpoint.proofs.Restricted.{fall-is-rise}
 use Rattle.model.specs.System.{System, sign}
 use Rattle.model.specs.declared.layout.Model.{Model}
@@ -68,6 +69,15 @@ module _ (s : System) (m : Model) (k : ℕ) (xs : List ℕ) (a b p q : ℕ) wher
 
   pub greatest-zero : q ≡ 0 → GreatestBuilt s m k xs a b p q (record { set = b; count = 0 })
   greatest-zero e = rw fall-is-rise (rises-zero _ _ _ _ _ _ _ e)
+
+  -- with no level below, the children are leaves
+  pub least-leaves : (r : Found) → k ≡ 0 → ((v : List ℕ) → LeastGives s m 0 xs a b (replicate p []) v r) → LeastBuilt s m k xs a b p q r
+  unfolding leastAmong
+  least-leaves r z g = rw (z, built-children-leaves p) (g _)
+
+  pub greatest-leaves : (r : Found) → k ≡ 0 → ((u : List ℕ) → GreatestGives s m 0 xs a b u (replicate q []) r) → GreatestBuilt s m k xs a b p q r
+  unfolding greatestAmong
+  greatest-leaves r z g = rw (z, built-children-leaves q) (g _)
 
   few-built : k < 8 → LineCount p → LineCount q → (r : Found) → LevelBuilt s m (suc k) xs a b p q r → r .count ≤ 64 ^ 8
   few-built h y z r g = rw (g .queries) (built-few s (suc k) p q h y z)

@@ -2,12 +2,14 @@
 -- cuts off, and then over what is left; it makes few queries.
 -- Assumes nothing.
 use mathlib.Core.Bool.{true, false}
-use mathlib.Core.List.{List}
+use mathlib.Core.List.{List, []}
 use mathlib.Core.Path.{_≡_, refl, sym, _∙_}
 use Prim.Native.Nat.{ℕ, suc, _≤_, _<_, _^_}
 use native.Mathlib.Omega.{arith}
-use lib.ListN.{length, getD, take, set}
-use Rattle.trees.specs.Tree.{children}
+use lib.ListN.{length, getD, take, set, replicate}
+use Rattle.trees.specs.Tree.{children, leaves}
+use Rattle.trees.proofs.Children.{children-leaves}
+use Rattle.fixpoint.specs.Levels.{leastAmong, greatestAmong}
 use Rattle.fixpoint.proofs.Restricted.{fall-is-rise}
 use Rattle.model.specs.System.{System, sign}
 use Rattle.model.specs.declared.layout.Model.{Model}
@@ -32,6 +34,19 @@ module _ (p : ℕ → ℕ → ℕ → List ℕ → List ℕ → ℕ) (b : ℕ) (
 module _ (s : System) (m : Model) (k : ℕ) (xs : List ℕ) (a b hu : ℕ) (u : List ℕ) (hv : ℕ) (v : List ℕ) where
   few-lent : hu ≡ leastOf s (suc k) → Lent hu u → hv ≡ greatestOf s (suc k) → Lent hv v → (r : Found) → LevelGives s m (suc k) xs a b u v r → r .count ≤ 64 ^ 8
   few-lent eu lu ev lv r g = omega (arith, g .queries, lent-few s (suc k) u v (rw eu at lu) (rw ev at lv))
+
+  -- with no level below, the children are leaves
+  pub least-leaves : (r : Found) → k ≡ 0 → hu ≡ suc (leastOf s k) → Lent hu u → ((w : List ℕ) → LeastGives s m 0 xs a b (replicate (leaves u) []) w r) → LeastGives s m k xs a b (children hu u) v r
+  unfolding leastAmong
+  least-leaves r z eu lu g =
+      let one : hu ≡ 1 = rw z at eu in
+      rw (z, one, children-leaves u (rw one at (lu .tree))) (g v)
+
+  pub greatest-leaves : (r : Found) → k ≡ 0 → hv ≡ suc (greatestOf s k) → Lent hv v → ((w : List ℕ) → GreatestGives s m 0 xs a b w (replicate (leaves v) []) r) → GreatestGives s m k xs a b u (children hv v) r
+  unfolding greatestAmong
+  greatest-leaves r z ev lv g =
+      let one : hv ≡ 1 = rw z at ev in
+      rw (z, one, children-leaves v (rw one at (lv .tree))) (g u)
 
   -- what the first child gives, alone or with what is left
   module _ (room : m .levels ≤ length xs) (within : k < m .levels) (lu : Lent hu u) (lv : Lent hv v) (cut : ℕ) (first : Found) where

@@ -2,6 +2,7 @@ pub mod Places
 pub mod Rounds
 pub mod OverChildren
 pub mod Levels
+pub mod InnermostLevels
 pub mod QueryBound
 pub mod FirstChild
 pub mod BuiltLevels

@@ -7,6 +7,8 @@ ghost use lib.ListN.{length};
 ghost use Rattle.model.specs.System.{sign};
 ghost use Rattle.trees.specs.Built.{built, builtChildren};
 ghost use Rattle.routes.specs.Parts.{Held, LineCount, Gives, systemIn, above, leastOf, greatestOf, restrictedFrom, queriesFrom, riseFrom, riseQueries, fallFrom, fallQueries};
+use super::innermost::innermost_greatest;
+use super::innermost::innermost_least;
 use super::step::Found;
 use super::step::bounded_step;
 use super::step::is_greatest;
@@ -32,6 +34,9 @@ fn built_least(
         let v = built q (greatestOf s below) in
         Gives r (riseFrom s below (above m (below + 1) (now (xs .entry))) a b us v) (riseQueries s below us v)) ⌝ }
 {
+    if below == 0 {
+        return innermost_least(file, m, xs, a, b, p);
+    }
     if p == 0 {
         return Found { set: a, count: 0 };
     }
@@ -67,6 +72,9 @@ fn built_greatest(
         let vs = builtChildren q (greatestOf s below) in
         Gives r (fallFrom s below (above m (below + 1) (now (xs .entry))) a b u vs) (fallQueries s below u vs)) ⌝ }
 {
+    if below == 0 {
+        return innermost_greatest(file, m, xs, a, b, q);
+    }
     if q == 0 {
         return Found { set: b, count: 0 };
     }

@@ -6,6 +6,8 @@ ghost use lib.ListN.{length, getD};
 ghost use Rattle.model.specs.System.{sign};
 ghost use Rattle.trees.specs.Tree.{children};
 ghost use Rattle.routes.specs.Parts.{Held, Lent, Gives, systemIn, above, leastOf, greatestOf, restrictedFrom, queriesFrom, riseFrom, riseQueries, fallFrom, fallQueries};
+use super::innermost::innermost_greatest;
+use super::innermost::innermost_least;
 use super::step::Found;
 use super::step::bounded_step;
 use super::step::is_greatest;
@@ -49,6 +51,9 @@ fn lent_least(
         let us = children hu (now (u .entry)) in
         Gives r (riseFrom s below (above m (below + 1) (now (xs .entry))) a b us (now (v .entry))) (riseQueries s below us (now (v .entry)))) ⌝ }
 {
+    if below == 0 {
+        return innermost_least(file, m, xs, a, b, u.len() + 1);
+    }
     let cut = first_gap(u, hu);
     let mut ys = *xs;
     ys[below] = a;
@@ -86,6 +91,9 @@ fn lent_greatest(
         let vs = children hv (now (v .entry)) in
         Gives r (fallFrom s below (above m (below + 1) (now (xs .entry))) a b (now (u .entry)) vs) (fallQueries s below (now (u .entry)) vs)) ⌝ }
 {
+    if below == 0 {
+        return innermost_greatest(file, m, xs, a, b, v.len() + 1);
+    }
     let cut = first_gap(v, hv);
     let mut ys = *xs;
     ys[below] = b;

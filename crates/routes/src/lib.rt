@@ -1,5 +1,6 @@
 // The evaluators of the three routes, over a lent file and its two counts. Definitions: specs/.
 mod built_route;
+mod innermost;
 mod lent_route;
 mod plain_route;
 mod step;

@@ -2,10 +2,11 @@
 -- follow document 01's own recurrences: the bound in the definition shows nowhere.
 -- Assumes nothing.
 use mathlib.Core.List.{List, [], _∷_, _++_}
-use mathlib.Core.Path.{_≡_, refl, sym, ap}
+use mathlib.Core.Path.{_≡_, refl, sym, _∙_, ap}
 use Prim.Native.Nat.{ℕ, zero, suc, _+_, _/_, _≤_}
 use native.Mathlib.Nat.{le-refl}
 use native.Mathlib.Omega.{arith}
+use lib.ListN.{replicate, replicate-append-replicate}
 use Rattle.trees.specs.Tree.{children, grow, leaves, IsTree, leaf}
 use Rattle.trees.specs.Built.{halvedChildren, built, builtChildren, leafCount}
 use Rattle.trees.proofs.Children.{Trees, none, more, trees-append, total, total-append, Some, append-some, of-some, children-grow, grow-leaves, grow-tree}
@@ -48,6 +49,20 @@ pub built-children-step : (n h : ℕ) → builtChildren (suc n) h ≡ builtChild
 unfolding halvedChildren
 built-children-step n h =
     cc (enough (λ m. built m h) n (suc n / 2) (omega arith), enough (λ m. built m h) n (n / 2) (omega arith))
+
+-- the children of S(n, 1) are n leaves
+pub built-children-leaves : (n : ℕ) → builtChildren n 0 ≡ replicate n []
+unfolding halvedChildren built
+built-children-leaves n = halves n n (le-refl n)
+  where
+    halves : (m k : ℕ) → k ≤ m → halvedChildren m (λ i. built i 0) k ≡ replicate k []
+    halves zero zero p = refl
+    halves zero (suc k) p = absurd (omega arith)
+    halves (suc m) zero p = refl
+    halves (suc m) (suc k) p =
+        let all : suc k / 2 + suc (k / 2) ≡ suc k = omega arith in
+        rw (halves m (suc k / 2) (omega arith), halves m (k / 2) (omega arith))
+        (replicate-append-replicate {A = List ℕ} (suc k / 2) (suc (k / 2)) [] ∙ ap (λ (n : ℕ). replicate n []) all)
 
 pub built-children-some : (n h : ℕ) → Some (builtChildren (suc n) h)
 built-children-some n h = rw (built-children-step n h) (append-some (builtChildren (suc n / 2) h) (built (suc n) h) (builtChildren (n / 2) h))

@@ -5,10 +5,11 @@ use mathlib.Core.Bool.{Bool, true, false}
 use mathlib.Core.List.{List, [], _∷_, _++_}
 use mathlib.Core.Path.{_≡_, refl, _∙_, ap}
 use Prim.Native.Nat.{ℕ, suc, _+_, _≤_}
+use native.Mathlib.Nat.{suc-add}
 use native.Mathlib.Omega.{arith}
 use borrow.Author.Tests.{ne-eqb, eq-eqb, eqb-true, eqb-false}
 use lib.Dec.{eqb}
-use lib.ListN.{length-append}
+use lib.ListN.{length, replicate, length-append}
 use Rattle.trees.specs.Tree.{children, grow, leaves, IsTree, leaf, gap}
 
 -- all of them are trees of height h
@@ -76,6 +77,13 @@ pub part-first : (h : ℕ) (p q : List ℕ) → IsTree h p → children (suc h) 
 unfolding children
 part-first h [] q i = simp (eq-eqb (suc h) (suc h) refl)
 part-first h (g ∷ p) q (gap low high i) = simp (ne-eqb g (suc h) (omega arith), part-first h p q i)
+
+-- the children of a tree of height 1 are its leaves
+pub children-leaves : (gaps : List ℕ) → IsTree 1 gaps → children 1 gaps ≡ replicate (leaves gaps) []
+unfolding children
+children-leaves [] i = refl
+children-leaves (g ∷ gaps) (gap low high i) =
+    simp (eq-eqb g 1 (omega arith), suc-add (length gaps) 1) (ap (λ (l : List (List ℕ)). [] ∷ l) (children-leaves gaps i))
 
 pub children-grow : (h : ℕ) (p : List ℕ) (ps : List (List ℕ)) → Trees h (p ∷ ps) → children (suc h) (grow (suc h) (p ∷ ps)) ≡ p ∷ ps
 unfolding grow

@@ -14,7 +14,7 @@ use Rattle.routes.specs.Parts.{systemIn}
 use Rattle.routes.proofs.OverChildren.{then}
 use Rattle.routes.proofs.Levels.{no-level}
 use Rattle.routes.proofs.QueryBound.{FewQueries}
-use Rattle.routes.proofs.BuiltLevels.{LeastBuilt, GreatestBuilt, least-zero, greatest-zero, least-built, greatest-built, least-halves, greatest-halves}
+use Rattle.routes.proofs.BuiltLevels.{LeastBuilt, GreatestBuilt, least-leaves, greatest-leaves, least-zero, greatest-zero, least-built, greatest-built, least-halves, greatest-halves}
 use Rattle.routes.proofs.built_route.built_greatest.Reads as greatest
 use Rattle.routes.proofs.built_route.built_greatest.Kinds as greatest-kinds
 use Rattle.routes.proofs.built_route.+built_greatest+built_least+built_level.Lts-built_greatest as greatest-lts
@@ -24,6 +24,8 @@ use Rattle.routes.proofs.built_route.+built_greatest+built_least+built_
 use Rattle.routes.proofs.built_route.built_level.Reads as level
 use Rattle.routes.proofs.built_route.built_level.Kinds as level-kinds
 use Rattle.routes.proofs.built_route.+built_greatest+built_least+built_level.Lts-built_level as level-lts
+use Rattle.routes.proofs.innermost.innermost_greatest.Reads as innermost-greatest
+use Rattle.routes.proofs.innermost.innermost_least.Reads as innermost-least
 use Rattle.routes.proofs.step.bounded_step.Reads as bounded-step
 use Rattle.routes.proofs.step.is_greatest.Reads as is-greatest
 use Rattle.routes.proofs.built_route.+built_greatest+built_least+built_level.{statement}
@@ -61,10 +63,10 @@ level-below t = and 2 level-kinds.ps (falls 2 level-kinds.ps _<_ μ-level t) lev
 -- what each may call
 
 abbrev greatest-calls : ℕ → greatest-lts.Claims
-greatest-calls t = (greatest-below t, greatest.Post, level-below t, level.Post)
+greatest-calls t = (innermost-greatest.Asked, innermost-greatest.Learnt, greatest-below t, greatest.Post, level-below t, level.Post)
 
 abbrev least-calls : ℕ → least-lts.Claims
-least-calls t = (least-below t, least.Post, level-below t, level.Post)
+least-calls t = (innermost-least.Asked, innermost-least.Learnt, least-below t, least.Post, level-below t, level.Post)
 
 abbrev level-calls : ℕ → level-lts.Claims
 level-calls t =
@@ -73,14 +75,24 @@ level-calls t =
 -- the least level
 
 module _ (t : ℕ) where
+  least-innermost-least-requires : least-lts.Need-innermost-least-requires (least-calls t) (least-at t) least.Post
+  least-innermost-least-requires c κs =
+      let pre = c .before .before .pre .1 in
+      (pre .0, omega (arith, pre .1 .0 .0))
+
   least-returns : least-lts.Need-returns (least-calls t) (least-at t) least.Post
   least-returns c =
-      let z = c .before .before .args in
-      least-zero (systemIn (now (z .file)) (z .m)) (z .m) (z .below) (now (z .xs)) (z .a) (z .b) (z .p) (z .q) (c .if1 .taken)
+      let z = c .before .before .before .args in
+      least-leaves (systemIn (now (z .file)) (z .m)) (z .m) (z .below) (now (z .xs)) (z .a) (z .b) (z .p) (z .q) _ (c .before .if1 .taken) (c .innermost-least .ensures)
+
+  least-returns-2 : least-lts.Need-returns-2 (least-calls t) (least-at t) least.Post
+  least-returns-2 c =
+      let z = c .before .before .before .args in
+      least-zero (systemIn (now (z .file)) (z .m)) (z .m) (z .below) (now (z .xs)) (z .a) (z .b) (z .p) (z .q) (c .if2 .taken)
 
   least-built-least-requires : least-lts.Need-built-least-requires (least-calls t) (least-at t) least.Post
   least-built-least-requires c κs =
-      let pre = c .before .before .pre .1 in
+      let pre = c .before .before .before .pre .1 in
       (search needs, (pre .0, (pre .1 .0, (search needs, pre .1 .1 .1))))
 
   least-mul-ys : least-lts.Need-mul-ys (least-calls t) (least-at t) least.Post
@@ -91,7 +103,7 @@ module _ (t : ℕ) where
 
   least-built-level-requires : least-lts.Need-built-level-requires (least-calls t) (least-at t) least.Post
   least-built-level-requires c κs =
-      let pre = c .before .before .before .before .before .pre .1 in
+      let pre = c .before .before .before .before .before .before .pre .1 in
       (search needs, ((pre .0 .0, simp length-set (pre .0 .1)), (search needs, ((search needs, pre .1 .1 .0), pre .1 .1 .1))))
 
   least-sub-built-least : least-lts.Need-sub-built-least (least-calls t) (least-at t) least.Post
@@ -99,20 +111,20 @@ module _ (t : ℕ) where
 
   least-built-least-requires-2 : least-lts.Need-built-least-requires-2 (least-calls t) (least-at t) least.Post
   least-built-least-requires-2 c κs =
-      let pre = c .before .before .before .before .before .before .pre .1 in
+      let pre = c .before .before .before .before .before .before .before .pre .1 in
       (search needs, (pre .0, (pre .1 .0, (search needs, pre .1 .1 .1))))
 
   -- what the three calls give together
   least-whole : (c : least-lts.After-built-least2 (least-calls t) (least-at t) least.Post)
-      → let z = c .before .before .before .before .before .before .before .args in
+      → let z = c .before .before .before .before .before .before .before .before .args in
       FewQueries (LeastBuilt (systemIn (now (z .file)) (z .m)) (z .m) (z .below) (now (z .xs)) (z .a) (z .b) (z .p) (z .q))
       (then (then (c .before .before .before .before .built-least .result) (c .before .built-level .result)) (c .built-least2 .result))
   least-whole c =
       let else = c .before .before .before .before .before in
-      let z = else .before .before .args in
-      let pre = else .before .before .pre .1 in
+      let z = else .before .before .before .args in
+      let pre = else .before .before .before .pre .1 in
       least-halves (systemIn (now (z .file)) (z .m)) (z .m) (z .below) (now (z .xs)) (z .a) (z .b) (z .p) (z .q) (pre .0 .0 .few-levels) (pre .0 .1) (pre .1 .0 .0) _ _ _
-      (pre .1 .0 .1) (else .if1 .left) (pre .1 .1 .0) (pre .1 .1 .1)
+      (pre .1 .0 .1) (else .if2 .left) (pre .1 .1 .0) (pre .1 .1 .1)
       (c .before .before .before .before .built-least .ensures) (c .before .built-level .ensures) (c .built-least2 .ensures)
 
   least-add-t21 : least-lts.Need-add-t21 (least-calls t) (least-at t) least.Post
@@ -121,20 +133,30 @@ module _ (t : ℕ) where
   least-add-t22 : least-lts.Need-add-t22 (least-calls t) (least-at t) least.Post
   least-add-t22 c = omega (arith, least-whole (c .before .before .before) .few)
 
-  least-returns-2 : least-lts.Need-returns-2 (least-calls t) (least-at t) least.Post
-  least-returns-2 c = least-whole (c .before .before .before) .gives
+  least-returns-3 : least-lts.Need-returns-3 (least-calls t) (least-at t) least.Post
+  least-returns-3 c = least-whole (c .before .before .before) .gives
 
 -- the greatest level
 
 module _ (t : ℕ) where
+  greatest-innermost-greatest-requires : greatest-lts.Need-innermost-greatest-requires (greatest-calls t) (greatest-at t) greatest.Post
+  greatest-innermost-greatest-requires c κs =
+      let pre = c .before .before .pre .1 in
+      (pre .0, omega (arith, pre .1 .0 .0))
+
   greatest-returns : greatest-lts.Need-returns (greatest-calls t) (greatest-at t) greatest.Post
   greatest-returns c =
-      let z = c .before .before .args in
-      greatest-zero (systemIn (now (z .file)) (z .m)) (z .m) (z .below) (now (z .xs)) (z .a) (z .b) (z .p) (z .q) (c .if1 .taken)
+      let z = c .before .before .before .args in
+      greatest-leaves (systemIn (now (z .file)) (z .m)) (z .m) (z .below) (now (z .xs)) (z .a) (z .b) (z .p) (z .q) _ (c .before .if1 .taken) (c .innermost-greatest .ensures)
+
+  greatest-returns-2 : greatest-lts.Need-returns-2 (greatest-calls t) (greatest-at t) greatest.Post
+  greatest-returns-2 c =
+      let z = c .before .before .before .args in
+      greatest-zero (systemIn (now (z .file)) (z .m)) (z .m) (z .below) (now (z .xs)) (z .a) (z .b) (z .p) (z .q) (c .if2 .taken)
 
   greatest-built-greatest-requires : greatest-lts.Need-built-greatest-requires (greatest-calls t) (greatest-at t) greatest.Post
   greatest-built-greatest-requires c κs =
-      let pre = c .before .before .pre .1 in
+      let pre = c .before .before .before .pre .1 in
       (search needs, (pre .0, (pre .1 .0, (pre .1 .1 .0, search needs))))
 
   greatest-mul-ys : greatest-lts.Need-mul-ys (greatest-calls t) (greatest-at t) greatest.Post
@@ -145,7 +167,7 @@ module _ (t : ℕ) where
 
   greatest-built-level-requires : greatest-lts.Need-built-level-requires (greatest-calls t) (greatest-at t) greatest.Post
   greatest-built-level-requires c κs =
-      let pre = c .before .before .before .before .before .pre .1 in
+      let pre = c .before .before .before .before .before .before .pre .1 in
       (search needs, ((pre .0 .0, simp length-set (pre .0 .1)), (search needs, (pre .1 .1 .0, (search needs, pre .1 .1 .1)))))
 
   greatest-sub-built-greatest : greatest-lts.Need-sub-built-greatest (greatest-calls t) (greatest-at t) greatest.Post
@@ -153,20 +175,20 @@ module _ (t : ℕ) where
 
   greatest-built-greatest-requires-2 : greatest-lts.Need-built-greatest-requires-2 (greatest-calls t) (greatest-at t) greatest.Post
   greatest-built-greatest-requires-2 c κs =
-      let pre = c .before .before .before .before .before .before .pre .1 in
+      let pre = c .before .before .before .before .before .before .before .pre .1 in
       (search needs, (pre .0, (pre .1 .0, (pre .1 .1 .0, search needs))))
 
   -- what the three calls give together
   greatest-whole : (c : greatest-lts.After-built-greatest2 (greatest-calls t) (greatest-at t) greatest.Post)
-      → let z = c .before .before .before .before .before .before .before .args in
+      → let z = c .before .before .before .before .before .before .before .before .args in
       FewQueries (GreatestBuilt (systemIn (now (z .file)) (z .m)) (z .m) (z .below) (now (z .xs)) (z .a) (z .b) (z .p) (z .q))
       (then (then (c .before .before .before .before .built-greatest .result) (c .before .built-level .result)) (c .built-greatest2 .result))
   greatest-whole c =
       let else = c .before .before .before .before .before in
-      let z = else .before .before .args in
-      let pre = else .before .before .pre .1 in
+      let z = else .before .before .before .args in
+      let pre = else .before .before .before .pre .1 in
       greatest-halves (systemIn (now (z .file)) (z .m)) (z .m) (z .below) (now (z .xs)) (z .a) (z .b) (z .p) (z .q) (pre .0 .0 .few-levels) (pre .0 .1) (pre .1 .0 .0) _ _ _
-      (pre .1 .0 .1) (else .if1 .left) (pre .1 .1 .1) (pre .1 .1 .0)
+      (pre .1 .0 .1) (else .if2 .left) (pre .1 .1 .1) (pre .1 .1 .0)
       (c .before .before .before .before .built-greatest .ensures) (c .before .built-level .ensures) (c .built-greatest2 .ensures)
 
   greatest-add-t21 : greatest-lts.Need-add-t21 (greatest-calls t) (greatest-at t) greatest.Post
@@ -175,8 +197,8 @@ module _ (t : ℕ) where
   greatest-add-t22 : greatest-lts.Need-add-t22 (greatest-calls t) (greatest-at t) greatest.Post
   greatest-add-t22 c = omega (arith, greatest-whole (c .before .before .before) .few)
 
-  greatest-returns-2 : greatest-lts.Need-returns-2 (greatest-calls t) (greatest-at t) greatest.Post
-  greatest-returns-2 c = greatest-whole (c .before .before .before) .gives
+  greatest-returns-3 : greatest-lts.Need-returns-3 (greatest-calls t) (greatest-at t) greatest.Post
+  greatest-returns-3 c = greatest-whole (c .before .before .before) .gives
 
 -- a level of either sign
 
@@ -227,7 +249,9 @@ pub +built-greatest+built-least+built-level-spec : {M : Type 1} → statement M
 +built-greatest+built-least+built-level-spec =
     close μ-greatest μ-least μ-level
     (λ t. greatest-lts.spec (greatest-calls t) (greatest-at t) greatest.Post
+    (greatest-innermost-greatest-requires t)
     (greatest-returns t)
+    (greatest-returns-2 t)
     (greatest-built-greatest-requires t)
     (greatest-mul-ys t)
     (greatest-array-write-ys t)
@@ -236,9 +260,11 @@ pub +built-greatest+built-least+built-level-spec : {M : Type 1} → statement M
     (greatest-built-greatest-requires-2 t)
     (greatest-add-t21 t)
     (greatest-add-t22 t)
-    (greatest-returns-2 t))
+    (greatest-returns-3 t))
     (λ t. least-lts.spec (least-calls t) (least-at t) least.Post
+    (least-innermost-least-requires t)
     (least-returns t)
+    (least-returns-2 t)
     (least-built-least-requires t)
     (least-mul-ys t)
     (least-array-write-ys t)
@@ -247,7 +273,7 @@ pub +built-greatest+built-least+built-level-spec : {M : Type 1} → statement M
     (least-built-least-requires-2 t)
     (least-add-t21 t)
     (least-add-t22 t)
-    (least-returns-2 t))
+    (least-returns-3 t))
     (λ t. level-lts.spec (level-calls t) (level-at t) level.Post
     (level-bounded-step-requires t)
     (level-returns t)

@@ -16,7 +16,7 @@ use Rattle.routes.proofs.OverChildren.{then}
 use Rattle.routes.proofs.Levels.{LeastGives, GreatestGives, no-level, least-heights, greatest-heights, least-level, greatest-level}
 use Rattle.routes.proofs.QueryBound.{FewQueries}
 use Rattle.routes.proofs.FirstChild.{front-lent, after-lent, after-shorter}
-use Rattle.routes.proofs.LentLevels.{least-last, greatest-last, least-more, greatest-more}
+use Rattle.routes.proofs.LentLevels.{least-leaves, greatest-leaves, least-last, greatest-last, least-more, greatest-more}
 use Rattle.routes.proofs.lent_route.lent_greatest.Reads as greatest
 use Rattle.routes.proofs.lent_route.lent_greatest.Kinds as greatest-kinds
 use Rattle.routes.proofs.lent_route.+lent_greatest+lent_least+lent_level.Lts-lent_greatest as greatest-lts
@@ -26,6 +26,8 @@ use Rattle.routes.proofs.lent_route.+lent_greatest+lent_least+lent_leve
 use Rattle.routes.proofs.lent_route.lent_level.Reads as level
 use Rattle.routes.proofs.lent_route.lent_level.Kinds as level-kinds
 use Rattle.routes.proofs.lent_route.+lent_greatest+lent_least+lent_level.Lts-lent_level as level-lts
+use Rattle.routes.proofs.innermost.innermost_greatest.Reads as innermost-greatest
+use Rattle.routes.proofs.innermost.innermost_least.Reads as innermost-least
 use Rattle.routes.proofs.lent_route.first_gap.Reads as first-gap
 use Rattle.routes.proofs.step.bounded_step.Reads as bounded-step
 use Rattle.routes.proofs.step.is_greatest.Reads as is-greatest
@@ -64,10 +66,10 @@ level-below t = and 4 level-kinds.ps (falls 4 level-kinds.ps _<_ μ-level t) lev
 -- what each may call
 
 abbrev greatest-calls : ℕ → greatest-lts.Claims
-greatest-calls t = (first-gap.Asked, first-gap.Learnt, level-below t, level.Post, greatest-below t, greatest.Post)
+greatest-calls t = (innermost-greatest.Asked, innermost-greatest.Learnt, first-gap.Asked, first-gap.Learnt, level-below t, level.Post, greatest-below t, greatest.Post)
 
 abbrev least-calls : ℕ → least-lts.Claims
-least-calls t = (first-gap.Asked, first-gap.Learnt, level-below t, level.Post, least-below t, least.Post)
+least-calls t = (innermost-least.Asked, innermost-least.Learnt, first-gap.Asked, first-gap.Learnt, level-below t, level.Post, least-below t, least.Post)
 
 abbrev level-calls : ℕ → level-lts.Claims
 level-calls t =
@@ -76,6 +78,22 @@ level-calls t =
 -- the least level
 
 module _ (t : ℕ) where
+  least-add-innermost-least : least-lts.Need-add-innermost-least (least-calls t) (least-at t) least.Post
+  least-add-innermost-least c = search needs
+
+  least-innermost-least-requires : least-lts.Need-innermost-least-requires (least-calls t) (least-at t) least.Post
+  least-innermost-least-requires c κs =
+      let pre = c .before .before .before .before .pre .1 in
+      (pre .0, omega (arith, pre .1 .0 .0))
+
+  least-returns : least-lts.Need-returns (least-calls t) (least-at t) least.Post
+  least-returns c =
+      let start = c .before .before .before .before .before in
+      let z = start .args in
+      let tree = start .pre .1 .1 .1 .0 in
+      least-leaves (systemIn (now (z .file)) (z .m)) (z .m) (z .below) (now (z .xs)) (z .a) (z .b) (z .hu) (now (z .u)) (z .hv) (now (z .v)) _
+      (c .before .if1 .taken) (tree .0) (tree .1) (c .innermost-least .ensures)
+
   least-first-gap-requires : least-lts.Need-first-gap-requires (least-calls t) (least-at t) least.Post
   least-first-gap-requires c κs = search needs
 
@@ -94,7 +112,7 @@ module _ (t : ℕ) where
   least-lent-level-requires : least-lts.Need-lent-level-requires (least-calls t) (least-at t) least.Post
   least-lent-level-requires c κs =
       let gap = c .before .before .before in
-      let pre = gap .before .before .before .before .pre .1 in (
+      let pre = gap .before .before .before .before .before .pre .1 in (
         search needs,
         (
           (pre .0 .0, simp length-set (pre .0 .1)),
@@ -105,14 +123,14 @@ module _ (t : ℕ) where
         ),
       )
 
-  least-returns : least-lts.Need-returns (least-calls t) (least-at t) least.Post
-  least-returns c =
+  least-returns-2 : least-lts.Need-returns-2 (least-calls t) (least-at t) least.Post
+  least-returns-2 c =
       let gap = c .before .before .before .before .before in
-      let z = gap .before .before .before .before .args in
-      let pre = gap .before .before .before .before .pre .1 in
+      let z = gap .before .before .before .before .before .args in
+      let pre = gap .before .before .before .before .before .pre .1 in
       least-last (systemIn (now (z .file)) (z .m)) (z .m) (z .below) (now (z .xs)) (z .a) (z .b) (z .hu) (now (z .u)) (z .hv) (now (z .v))
       (pre .0 .1) (pre .1 .0 .0) (pre .1 .1 .0 .1) (pre .1 .1 .1 .1) _ _
-      (pre .1 .0 .1) (pre .1 .1 .0 .0) (pre .1 .1 .1 .0) (gap .first-gap .ensures .1 .0) (c .before .lent-level .ensures) (c .if1 .taken)
+      (pre .1 .0 .1) (pre .1 .1 .0 .0) (pre .1 .1 .1 .0) (gap .first-gap .ensures .1 .0) (c .before .lent-level .ensures) (c .if2 .taken)
 
   least-add-next : least-lts.Need-add-next (least-calls t) (least-at t) least.Post
   least-add-next c = search needs
@@ -127,14 +145,14 @@ module _ (t : ℕ) where
   least-part-lent-least-end c = search needs
 
   -- a gap of the height was found
-  least-inside : (c : least-lts.Else1 (least-calls t) (least-at t) least.Post)
-      → let gap = c .before .before .before .before .before in gap .first-gap .result < length (now (gap .before .before .before .before .args .u))
-  least-inside c = omega (arith, c .if1 .left, c .before .before .before .before .before .first-gap .ensures .0)
+  least-inside : (c : least-lts.Else2 (least-calls t) (least-at t) least.Post)
+      → let gap = c .before .before .before .before .before in gap .first-gap .result < length (now (gap .before .before .before .before .before .args .u))
+  least-inside c = omega (arith, c .if2 .left, c .before .before .before .before .before .first-gap .ensures .0)
 
   least-lent-least-requires : least-lts.Need-lent-least-requires (least-calls t) (least-at t) least.Post
   least-lent-least-requires c κs =
       let gap = c .before .before .before .before .before .before in
-      let start = gap .before .before .before .before in
+      let start = gap .before .before .before .before .before in
       let pre = start .pre .1 in (
         omega (arith, start .pre .0, after-shorter (now (start .args .u)) (gap .first-gap .result) (least-inside (c .before))),
         (
@@ -148,28 +166,44 @@ module _ (t : ℕ) where
 
   -- what the two calls give together
   least-whole : (c : least-lts.After-lent-least (least-calls t) (least-at t) least.Post)
-      → let z = c .before .before .before .before .before .before .before .before .before .before .before .args in
+      → let z = c .before .before .before .before .before .before .before .before .before .before .before .before .args in
       FewQueries (LeastGives (systemIn (now (z .file)) (z .m)) (z .m) (z .below) (now (z .xs)) (z .a) (z .b) (children (z .hu) (now (z .u))) (now (z .v)))
       (then (c .before .before .before .lent-level .result) (c .lent-least .result))
   least-whole c =
       let else = c .before .before in
       let gap = else .before .before .before .before .before in
-      let z = gap .before .before .before .before .args in
-      let pre = gap .before .before .before .before .pre .1 in
+      let z = gap .before .before .before .before .before .args in
+      let pre = gap .before .before .before .before .before .pre .1 in
       least-more (systemIn (now (z .file)) (z .m)) (z .m) (z .below) (now (z .xs)) (z .a) (z .b) (z .hu) (now (z .u)) (z .hv) (now (z .v))
       (pre .0 .1) (pre .1 .0 .0) (pre .1 .1 .0 .1) (pre .1 .1 .1 .1) _ _
       (pre .1 .0 .1) (pre .1 .1 .0 .0) (pre .1 .1 .1 .0) (gap .first-gap .ensures .1 .0) (else .before .lent-level .ensures)
       (least-inside else) (gap .first-gap .ensures .1 .1 (least-inside else)) _ (c .lent-least .ensures)
 
-  least-add-t27 : least-lts.Need-add-t27 (least-calls t) (least-at t) least.Post
-  least-add-t27 c = omega (arith, least-whole (c .before .before) .few)
+  least-add-t29 : least-lts.Need-add-t29 (least-calls t) (least-at t) least.Post
+  least-add-t29 c = omega (arith, least-whole (c .before .before) .few)
 
-  least-returns-2 : least-lts.Need-returns-2 (least-calls t) (least-at t) least.Post
-  least-returns-2 c = least-whole (c .before .before) .gives
+  least-returns-3 : least-lts.Need-returns-3 (least-calls t) (least-at t) least.Post
+  least-returns-3 c = least-whole (c .before .before) .gives
 
 -- the greatest level
 
 module _ (t : ℕ) where
+  greatest-add-innermost-greatest : greatest-lts.Need-add-innermost-greatest (greatest-calls t) (greatest-at t) greatest.Post
+  greatest-add-innermost-greatest c = search needs
+
+  greatest-innermost-greatest-requires : greatest-lts.Need-innermost-greatest-requires (greatest-calls t) (greatest-at t) greatest.Post
+  greatest-innermost-greatest-requires c κs =
+      let pre = c .before .before .before .before .pre .1 in
+      (pre .0, omega (arith, pre .1 .0 .0))
+
+  greatest-returns : greatest-lts.Need-returns (greatest-calls t) (greatest-at t) greatest.Post
+  greatest-returns c =
+      let start = c .before .before .before .before .before in
+      let z = start .args in
+      let tree = start .pre .1 .1 .1 .1 in
+      greatest-leaves (systemIn (now (z .file)) (z .m)) (z .m) (z .below) (now (z .xs)) (z .a) (z .b) (z .hu) (now (z .u)) (z .hv) (now (z .v)) _
+      (c .before .if1 .taken) (tree .0) (tree .1) (c .innermost-greatest .ensures)
+
   greatest-first-gap-requires : greatest-lts.Need-first-gap-requires (greatest-calls t) (greatest-at t) greatest.Post
   greatest-first-gap-requires c κs = search needs
 
@@ -188,7 +222,7 @@ module _ (t : ℕ) where
   greatest-lent-level-requires : greatest-lts.Need-lent-level-requires (greatest-calls t) (greatest-at t) greatest.Post
   greatest-lent-level-requires c κs =
       let gap = c .before .before .before in
-      let pre = gap .before .before .before .before .pre .1 in (
+      let pre = gap .before .before .before .before .before .pre .1 in (
         search needs,
         (
           (pre .0 .0, simp length-set (pre .0 .1)),
@@ -199,14 +233,14 @@ module _ (t : ℕ) where
         ),
       )
 
-  greatest-returns : greatest-lts.Need-returns (greatest-calls t) (greatest-at t) greatest.Post
-  greatest-returns c =
+  greatest-returns-2 : greatest-lts.Need-returns-2 (greatest-calls t) (greatest-at t) greatest.Post
+  greatest-returns-2 c =
       let gap = c .before .before .before .before .before in
-      let z = gap .before .before .before .before .args in
-      let pre = gap .before .before .before .before .pre .1 in
+      let z = gap .before .before .before .before .before .args in
+      let pre = gap .before .before .before .before .before .pre .1 in
       greatest-last (systemIn (now (z .file)) (z .m)) (z .m) (z .below) (now (z .xs)) (z .a) (z .b) (z .hu) (now (z .u)) (z .hv) (now (z .v))
       (pre .0 .1) (pre .1 .0 .0) (pre .1 .1 .0 .1) (pre .1 .1 .1 .1) _ _
-      (pre .1 .0 .1) (pre .1 .1 .0 .0) (pre .1 .1 .1 .0) (gap .first-gap .ensures .1 .0) (c .before .lent-level .ensures) (c .if1 .taken)
+      (pre .1 .0 .1) (pre .1 .1 .0 .0) (pre .1 .1 .1 .0) (gap .first-gap .ensures .1 .0) (c .before .lent-level .ensures) (c .if2 .taken)
 
   greatest-add-next : greatest-lts.Need-add-next (greatest-calls t) (greatest-at t) greatest.Post
   greatest-add-next c = search needs
@@ -221,14 +255,14 @@ module _ (t : ℕ) where
   greatest-part-lent-greatest-end c = search needs
 
   -- a gap of the height was found
-  greatest-inside : (c : greatest-lts.Else1 (greatest-calls t) (greatest-at t) greatest.Post)
-      → let gap = c .before .before .before .before .before in gap .first-gap .result < length (now (gap .before .before .before .before .args .v))
-  greatest-inside c = omega (arith, c .if1 .left, c .before .before .before .before .before .first-gap .ensures .0)
+  greatest-inside : (c : greatest-lts.Else2 (greatest-calls t) (greatest-at t) greatest.Post)
+      → let gap = c .before .before .before .before .before in gap .first-gap .result < length (now (gap .before .before .before .before .before .args .v))
+  greatest-inside c = omega (arith, c .if2 .left, c .before .before .before .before .before .first-gap .ensures .0)
 
   greatest-lent-greatest-requires : greatest-lts.Need-lent-greatest-requires (greatest-calls t) (greatest-at t) greatest.Post
   greatest-lent-greatest-requires c κs =
       let gap = c .before .before .before .before .before .before in
-      let start = gap .before .before .before .before in
+      let start = gap .before .before .before .before .before in
       let pre = start .pre .1 in (
         omega (arith, start .pre .0, after-shorter (now (start .args .v)) (gap .first-gap .result) (greatest-inside (c .before))),
         (
@@ -242,24 +276,24 @@ module _ (t : ℕ) where
 
   -- what the two calls give together
   greatest-whole : (c : greatest-lts.After-lent-greatest (greatest-calls t) (greatest-at t) greatest.Post)
-      → let z = c .before .before .before .before .before .before .before .before .before .before .before .args in
+      → let z = c .before .before .before .before .before .before .before .before .before .before .before .before .args in
       FewQueries (GreatestGives (systemIn (now (z .file)) (z .m)) (z .m) (z .below) (now (z .xs)) (z .a) (z .b) (now (z .u)) (children (z .hv) (now (z .v))))
       (then (c .before .before .before .lent-level .result) (c .lent-greatest .result))
   greatest-whole c =
       let else = c .before .before in
       let gap = else .before .before .before .before .before in
-      let z = gap .before .before .before .before .args in
-      let pre = gap .before .before .before .before .pre .1 in
+      let z = gap .before .before .before .before .before .args in
+      let pre = gap .before .before .before .before .before .pre .1 in
       greatest-more (systemIn (now (z .file)) (z .m)) (z .m) (z .below) (now (z .xs)) (z .a) (z .b) (z .hu) (now (z .u)) (z .hv) (now (z .v))
       (pre .0 .1) (pre .1 .0 .0) (pre .1 .1 .0 .1) (pre .1 .1 .1 .1) _ _
       (pre .1 .0 .1) (pre .1 .1 .0 .0) (pre .1 .1 .1 .0) (gap .first-gap .ensures .1 .0) (else .before .lent-level .ensures)
       (greatest-inside else) (gap .first-gap .ensures .1 .1 (greatest-inside else)) _ (c .lent-greatest .ensures)
 
-  greatest-add-t27 : greatest-lts.Need-add-t27 (greatest-calls t) (greatest-at t) greatest.Post
-  greatest-add-t27 c = omega (arith, greatest-whole (c .before .before) .few)
+  greatest-add-t29 : greatest-lts.Need-add-t29 (greatest-calls t) (greatest-at t) greatest.Post
+  greatest-add-t29 c = omega (arith, greatest-whole (c .before .before) .few)
 
-  greatest-returns-2 : greatest-lts.Need-returns-2 (greatest-calls t) (greatest-at t) greatest.Post
-  greatest-returns-2 c = greatest-whole (c .before .before) .gives
+  greatest-returns-3 : greatest-lts.Need-returns-3 (greatest-calls t) (greatest-at t) greatest.Post
+  greatest-returns-3 c = greatest-whole (c .before .before) .gives
 
 -- a level of either sign
 
@@ -334,35 +368,41 @@ pub +lent-greatest+lent-least+lent-level-spec : {M : Type 1} → statement M
 +lent-greatest+lent-least+lent-level-spec =
     close μ-greatest μ-least μ-level
     (λ t. greatest-lts.spec (greatest-calls t) (greatest-at t) greatest.Post
+    (greatest-add-innermost-greatest t)
+    (greatest-innermost-greatest-requires t)
+    (greatest-returns t)
     (greatest-first-gap-requires t)
     (greatest-mul-ys t)
     (greatest-array-write-ys t)
     (greatest-sub-lent-level t)
     (greatest-slice-aggregate-lent-level t)
     (greatest-lent-level-requires t)
-    (greatest-returns t)
+    (greatest-returns-2 t)
     (greatest-add-next t)
     (greatest-sub-lent-greatest t)
     (greatest-part-lent-greatest-start t)
     (greatest-part-lent-greatest-end t)
     (greatest-lent-greatest-requires t)
-    (greatest-add-t27 t)
-    (greatest-returns-2 t))
+    (greatest-add-t29 t)
+    (greatest-returns-3 t))
     (λ t. least-lts.spec (least-calls t) (least-at t) least.Post
+    (least-add-innermost-least t)
+    (least-innermost-least-requires t)
+    (least-returns t)
     (least-first-gap-requires t)
     (least-mul-ys t)
     (least-array-write-ys t)
     (least-sub-lent-level t)
     (least-slice-aggregate-lent-level t)
     (least-lent-level-requires t)
-    (least-returns t)
+    (least-returns-2 t)
     (least-add-next t)
     (least-sub-lent-least t)
     (least-part-lent-least-start t)
     (least-part-lent-least-end t)
     (least-lent-least-requires t)
-    (least-add-t27 t)
-    (least-returns-2 t))
+    (least-add-t29 t)
+    (least-returns-3 t))
     (λ t. level-lts.spec (level-calls t) (level-at t) level.Post
     (level-bounded-step-requires t)
     (level-returns t)
