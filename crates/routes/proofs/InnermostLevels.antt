@@ -27,7 +27,7 @@ module _ (p : ℕ → ℕ → ℕ → List ℕ → List ℕ → ℕ) (b : ℕ) (
 
 -- xs has the arguments of the levels above, and so has ys, where the loop stores its own
 module _ (s : System) (m : Model) (xs ys : List ℕ) (a b : ℕ) (same : above m 1 ys ≡ above m 1 xs) (within : 0 < m .levels) (room : m .levels ≤ length ys) where
-  one-leaf : (l h x y : ℕ) (u v : List ℕ) → y ≡ boundedStep l h (query s (take (m .levels) (set ys 0 x))) 
+  one-leaf : (l h x y : ℕ) (u v : List ℕ) → y ≡ boundedStep l h (query s (take (m .levels) (set ys 0 x)))
       → Gives (after-leaves y 1) (restrictedFrom s 0 (x ∷ above m 1 xs) l h u v) (queriesFrom s 0 u v)
   one-leaf l h x y u v e = rw same at (at-argument s m 0 ys l h u v (after-leaves y 1) x within room (no-level s m 0 (set ys 0 x) l h u v (after-leaves y 1) refl e refl))
 

@@ -8,7 +8,14 @@ use super::step::bounded_step;
 use model::Model;
 
 // A least innermost level over so many leaves; the tree of the greatest levels is a leaf too.
-pub(crate) fn innermost_least(file: &[u8], m: Model, xs: &[u64; 8], a: u64, b: u64, leaves: usize) -> Found
+pub(crate) fn innermost_least(
+    file: &[u8],
+    m: Model,
+    xs: &[u64; 8],
+    a: u64,
+    b: u64,
+    leaves: usize,
+) -> Found
     requires { ⌜ Held (now file) m × (m .levels ≤ length (now xs)) ⌝ }
     requires { ⌜ 0 < m .levels ⌝ }
     ensures { λ r. ⌜
@@ -31,7 +38,14 @@ pub(crate) fn innermost_least(file: &[u8], m: Model, xs: &[u64; 8], a: u64, b: u
 }
 
 // A greatest innermost level likewise.
-pub(crate) fn innermost_greatest(file: &[u8], m: Model, xs: &[u64; 8], a: u64, b: u64, leaves: usize) -> Found
+pub(crate) fn innermost_greatest(
+    file: &[u8],
+    m: Model,
+    xs: &[u64; 8],
+    a: u64,
+    b: u64,
+    leaves: usize,
+) -> Found
     requires { ⌜ Held (now file) m × (m .levels ≤ length (now xs)) ⌝ }
     requires { ⌜ 0 < m .levels ⌝ }
     ensures { λ r. ⌜
