@@ -24,15 +24,15 @@ pub(crate) fn innermost_least(
         (v : List ℕ) → Gives r (riseFrom s 0 (above m 1 (now (xs .entry))) a b us v) (riseQueries s 0 us v)) ⌝ }
 {
     let mut ys = *xs;
-    let mut x = a;
+    let mut low = a;
     let mut i = 0;
     while i < leaves {
-        ys[0] = x;
-        x = bounded_step(file, m, x, b, &ys);
+        ys[0] = low;
+        low = bounded_step(file, m, low, b, &ys);
         i += 1;
     }
     Found {
-        set: x,
+        set: low,
         count: i as u64,
     }
 }
@@ -54,15 +54,15 @@ pub(crate) fn innermost_greatest(
         (u : List ℕ) → Gives r (fallFrom s 0 (above m 1 (now (xs .entry))) a b u vs) (fallQueries s 0 u vs)) ⌝ }
 {
     let mut ys = *xs;
-    let mut x = b;
+    let mut high = b;
     let mut i = 0;
     while i < leaves {
-        ys[0] = x;
-        x = bounded_step(file, m, a, x, &ys);
+        ys[0] = high;
+        high = bounded_step(file, m, a, high, &ys);
         i += 1;
     }
     Found {
-        set: x,
+        set: high,
         count: i as u64,
     }
 }
