@@ -1,4 +1,5 @@
--- The levels over built-in trees: a level over the children of S(n, h) is worked out by halves, and makes few queries.
+-- The levels over built-in trees: a level over the children of S(n, h) is worked out by halves, with no level below
+-- over leaves, and makes few queries.
 -- Assumes nothing.
 use mathlib.Core.Bool.{true, false}
 use mathlib.Core.List.{List, [], _∷_, _++_}

@@ -1,5 +1,5 @@
 -- The levels over lent trees: a level over the children of a tree is worked out with its first child, which the first gap of the tree's height
--- cuts off, and then over what is left; it makes few queries.
+-- cuts off, and then over what is left, with no level below over leaves; it makes few queries.
 -- Assumes nothing.
 use mathlib.Core.Bool.{true, false}
 use mathlib.Core.List.{List, []}

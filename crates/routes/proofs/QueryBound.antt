@@ -51,21 +51,21 @@ leaf-few (suc h) n q =
 
 -- over built-in trees for up to 64 lines, at most 8 levels high together
 
-sized-tree : (n h : ℕ) → LineCount n → IsTree h (built n h)
-sized-tree zero h z = absurd (omega arith)
-sized-tree (suc n) h z = built-tree n h
+count-tree : (n h : ℕ) → LineCount n → IsTree h (built n h)
+count-tree zero h z = absurd (omega arith)
+count-tree (suc n) h z = built-tree n h
 
-sized-few : (n h : ℕ) → LineCount n → leaves (built n h) ≤ 64 ^ h
+count-few : (n h : ℕ) → LineCount n → leaves (built n h) ≤ 64 ^ h
 unfolding leafCount
-sized-few zero h z = absurd (omega arith)
-sized-few (suc n) h z = leaf-few h (suc n) (z .1)
+count-few zero h z = absurd (omega arith)
+count-few (suc n) h z = leaf-few h (suc n) (z .1)
 
 pub built-few : (s : System) (k p q : ℕ) → k ≤ 8 → LineCount p → LineCount q → queriesFrom s k (built p (leastOf s k)) (built q (greatestOf s k)) ≤ 64 ^ 8
 built-few s k p q h y z =
     let i = leastOf s k in
     let j = greatestOf s k in
-    rw (queries-product (sign s) k (built p i) (built q j) (sized-tree p i y) (sized-tree q j z))
-    (le-trans (mul-le-mul (sized-few p i y) (sized-few q j z))
+    rw (queries-product (sign s) k (built p i) (built q j) (count-tree p i y) (count-tree q j z))
+    (le-trans (mul-le-mul (count-few p i y) (count-few q j z))
     (rw (← (pow-add 64 i j)) (pow-le-pow-right {n = 64} (omega arith) {j = 8} (omega (arith, levels-sum (sign s) k)))))
 
 -- over lent trees

@@ -110,6 +110,7 @@ pub fn built_level(
         let v = built q (greatestOf s k) in
         Gives r (restrictedFrom s k (above m k (now (xs .entry))) a b u v) (queriesFrom s k u v)) ⌝ }
 {
+    // With no level left, one query; the levels themselves end in the innermost loop.
     if k == 0 {
         return Found {
             set: bounded_step(file, m, a, b, xs),

@@ -7,7 +7,7 @@ use super::step::Found;
 use super::step::bounded_step;
 use model::Model;
 
-// A least innermost level over so many leaves; the tree of the greatest levels is a leaf too.
+// A least innermost level over so many leaves, whatever the tree of the greatest levels.
 pub(crate) fn innermost_least(
     file: &[u8],
     m: Model,

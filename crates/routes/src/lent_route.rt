@@ -130,6 +130,7 @@ pub fn lent_level(
         (let s = systemIn (now (file .entry)) m in
         Gives r (restrictedFrom s k (above m k (now (xs .entry))) a b (now (u .entry)) (now (v .entry))) (queriesFrom s k (now (u .entry)) (now (v .entry)))) ⌝ }
 {
+    // With no level left, one query; the levels themselves end in the innermost loop.
     if k == 0 {
         return Found {
             set: bounded_step(file, m, a, b, xs),

@@ -5,7 +5,7 @@ use mathlib.Core.Path.{_≡_}
 use Prim.Native.Nat.{ℕ}
 use Rattle.trees.specs.Built.{built, leafCount}
 use Rattle.model.specs.System.{System}
-use Rattle.routes.specs.Routes.{leastLevels, greatestLevels, nestedSet, plainRun, restrictedSet, restrictedCount}
+use Rattle.routes.specs.Routes.{builtLeast, builtGreatest, nestedSet, plainRun, restrictedSet, restrictedCount}
 use Rattle.samples.specs.Models.{P, Q, one}
 
 -- what the definitions give, and what document 01 says
@@ -26,7 +26,7 @@ over m a b u v = restrictedSet m a b u v ∷ restrictedCount m u v ∷ []
 
 -- the set and count over the built-in trees
 abbrev pub overBuilt : System → ℕ → ℕ → List ℕ
-overBuilt m a b = over m a b (built (m .lines) (leastLevels m)) (built (m .lines) (greatestLevels m))
+overBuilt m a b = over m a b (builtLeast m (m .lines)) (builtGreatest m (m .lines))
 
 unfoldable pub table : List Row
 table =

@@ -78,13 +78,6 @@ unfolding children
 part-first h [] q i = simp (eq-eqb (suc h) (suc h) refl)
 part-first h (g ∷ p) q (gap low high i) = simp (ne-eqb g (suc h) (omega arith), part-first h p q i)
 
--- the children of a tree of height 1 are its leaves
-pub children-leaves : (gaps : List ℕ) → IsTree 1 gaps → children 1 gaps ≡ replicate (leaves gaps) []
-unfolding children
-children-leaves [] i = refl
-children-leaves (g ∷ gaps) (gap low high i) =
-    simp (eq-eqb g 1 (omega arith), suc-add (length gaps) 1) (ap (λ (l : List (List ℕ)). [] ∷ l) (children-leaves gaps i))
-
 pub children-grow : (h : ℕ) (p : List ℕ) (ps : List (List ℕ)) → Trees h (p ∷ ps) → children (suc h) (grow (suc h) (p ∷ ps)) ≡ p ∷ ps
 unfolding grow
 children-grow h p [] (more i is) = part-alone h p i
@@ -109,6 +102,13 @@ grow-tree h p [] (more i is) = tree-suc i
 grow-tree h p (q ∷ ps) (more i is) = append-tree i (grow-tree h q ps is)
 
 -- the children of a root
+
+-- the children of a tree of height 1 are its leaves
+pub children-leaves : (gaps : List ℕ) → IsTree 1 gaps → children 1 gaps ≡ replicate (leaves gaps) []
+unfolding children
+children-leaves [] i = refl
+children-leaves (g ∷ gaps) (gap low high i) =
+    simp (eq-eqb g 1 (omega arith), suc-add (length gaps) 1) (ap (λ (l : List (List ℕ)). [] ∷ l) (children-leaves gaps i))
 
 -- p and then ps are the parts of gs between the gaps equal to h
 data Parts (h : ℕ) : List ℕ → List ℕ → List (List ℕ) → Type 0 where

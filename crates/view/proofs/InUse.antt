@@ -19,7 +19,7 @@ countsOf n d = record { lines = n; levels = d }
 
 pub record Used (file : List ℕ) (n d : ℕ) : Type 0 where
   pub held : Held file (countsOf n d)
-  pub sized-lines : LineCount n
+  pub line-count : LineCount n
   pub system : systemIn file (countsOf n d) ≡ decode file
   pub lines-are : n ≡ linesIn file
   pub levels-are : d ≡ levelsIn file
@@ -29,7 +29,7 @@ used file n d h =
     let c = checked file {a = reading.Accepted (countsOf n d)} (sym h) {m = countsOf n d} refl in
     record {
       held = record { few-lines = c .limits .0; few-levels = c .limits .1; whole = c .room };
-      sized-lines = (omega (arith, c .counts .lines, c .accepted .header .lines-least), c .limits .0);
+      line-count = (omega (arith, c .counts .lines, c .accepted .header .lines-least), c .limits .0);
       system = c .system;
       lines-are = c .counts .lines;
       levels-are = c .counts .levels;

@@ -178,14 +178,14 @@ module _ (o : Operation) where
         let x : Xs κs = a .1 in
         let vss : Valss (typesAt (o .others) κs) = values κs (o .others) (o .passed) x in
         let us : Valss (typesAt parts κs) = values κs parts parts-passed (fields κs d x) in
-        let walked = so κs d x K typed in (
-          walked .0,
+        let done-so = so κs d x K typed in (
+          done-so .0,
           via 𝓤 (Handed κs k (part-values κs d x) K)
               (via 𝓤 (sep 𝓤 (Entry 𝓤 H A parts κs qs (fields κs d x) us) (emp 𝓤))
               (qed W (raw (toks 𝓤 A (suc m) κs qs) ∷ ‵ (owns (typesAt whole κs) (d, x) (T′.lowered d ∷ [], vss)) ∷ []) ∵
               move ! (1 ∷ []) $ use1 W (‵ (owns (typesAt parts κs) (fields κs d x) us)) (opened 𝓤 H A W κs d x vss) $ move ! (1 ∷ 0 ∷ []) $ join ! $ frame ! $ done !)
               (called 𝓤 H 𝓜 𝓖 𝓡 γ parts (o .result) PartsAsk PartsSay κs qs (fields κs d x) us k routine e met ok (Fits κs) (fits κs) (emp 𝓤) K
-              (λ z out s. via 𝓤 _ (fst∗ 𝓤 _ (emp 𝓤)) (back z out s)))) (walked .1),
+              (λ z out s. via 𝓤 _ (fst∗ 𝓤 _ (emp 𝓤)) (back z out s)))) (done-so .1),
         ))
 
     -- the struct is made, and handed on
@@ -202,8 +202,8 @@ module _ (o : Operation) where
         let us : Valss (typesAt news (κs .0, tt)) = values (κs .0, tt) news news-passed (d .file, (d .lines, (d .levels, tt))) in
         let F : SProp 𝓤 = Left 𝓤 H A W κs qs x vss in
         let Then : Val → SProp 𝓤 = λ w. Handed κs k (w ∷ other-values κs x) K in
-        let walked = so κs d x K typed in (
-          walked .0,
+        let done-so = so κs d x K typed in (
+          done-so .0,
           via 𝓤 (𝓡 .run (γ new) (new-values (κs .0) d) (λ w. H .⇛ (guard 𝓤 (FitsLocal w) (Then w))))
               (via 𝓤 (sep 𝓤 (Entry 𝓤 H A news (κs .0, tt) (qs .0, tt) (d .file, (d .lines, (d .levels, tt))) us) F) (to-new 𝓤 H A W κs qs x vss d us)
               (called 𝓤 H 𝓜 𝓖 𝓡 γ news (view 0) NewAsks NewSays (κs .0, tt) (qs .0, tt) (d .file, (d .lines, (d .levels, tt))) us new makes e-new met-new used
@@ -211,5 +211,5 @@ module _ (o : Operation) where
               let same : r ≡ d = same-view (d .file) (d .lines) (d .levels) used r made in
               via 𝓤 (sep 𝓤 (Entry 𝓤 H A whole κs qs (r, x) (w ∷ [], vss)) (emp 𝓤)) (from-new 𝓤 H A W κs qs x vss r w)
               (called 𝓤 H 𝓜 𝓖 𝓡 γ whole (o .result) WholeAsks WholeSays κs qs (r, x) (w ∷ [], vss) k routine e met (subst (λ (z : View). o .Asks κs z x) (sym same) ok) (Fits κs) (fits κs) (emp 𝓤) K
-              (λ z out s. via 𝓤 _ (fst∗ 𝓤 _ (emp 𝓤)) (back z out (subst (λ (y : View). o .Says κs y x z) same s))))))) (walked .1),
+              (λ z out s. via 𝓤 _ (fst∗ 𝓤 _ (emp 𝓤)) (back z out (subst (λ (y : View). o .Says κs y x z) same s))))))) (done-so .1),
         ))

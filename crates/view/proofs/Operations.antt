@@ -23,8 +23,8 @@ use Rattle.view.specs.declared.View.{View}
 use Rattle.view.proofs.Operation.{Operation}
 use Rattle.view.proofs.Viewed.{number, slice, count}
 
-abbrev Used : View → Type 0
-Used d = InUse (now (d .file)) (d .lines) (d .levels)
+abbrev ViewInUse : View → Type 0
+ViewInUse d = InUse (now (d .file)) (d .lines) (d .levels)
 
 abbrev pub query : Operation
 query = record {
@@ -33,7 +33,7 @@ query = record {
   passed = (slice 1 tt u64, tt);
   result = plain (λ _. u64);
   lawful = λ 𝓤 H A W κs. uint-lawful 𝓤 H A W w64;
-  Asks = λ κs d x. Used d × (length (now (x .0)) ≡ d .levels);
+  Asks = λ κs d x. ViewInUse d × (length (now (x .0)) ≡ d .levels);
   Says = λ κs d x r. r ≡ querySet (decode (now (d .file))) (now (x .0));
   in-use = λ κs d x ok. ok .0;
 }
@@ -45,7 +45,7 @@ plain-rounds = record {
   passed = (number, (number, (number, tt)));
   result = plain (λ _. Outcome.the-row);
   lawful = λ 𝓤 H A W κs. EL.lawful Outcome.the-type Outcome′.the-laws 𝓤 H A W tt;
-  Asks = λ κs d x. Used d × Range (sets (d .lines)) (x .0) (x .1 .0);
+  Asks = λ κs d x. ViewInUse d × Range (sets (d .lines)) (x .0) (x .1 .0);
   Says = λ κs d x r. PlainIs (decode (now (d .file))) (x .0) (x .1 .0) (x .1 .1 .0) r;
   in-use = λ κs d x ok. ok .0;
 }
@@ -57,7 +57,7 @@ built-trees = record {
   passed = (number, (number, tt));
   result = plain (λ _. Found.the-row);
   lawful = λ 𝓤 H A W κs. LL.lawful Found.the-type Found′.the-laws 𝓤 H A W;
-  Asks = λ κs d x. Used d;
+  Asks = λ κs d x. ViewInUse d;
   Says = λ κs d x r. BuiltIs (decode (now (d .file))) (x .0) (x .1 .0) r;
   in-use = λ κs d x ok. ok;
 }
@@ -70,7 +70,7 @@ lent-trees = record {
   passed = (number, (number, (number, (slice 1 tt u8, (number, (slice 2 tt u8, tt))))));
   result = plain (λ _. Found.the-row);
   lawful = λ 𝓤 H A W κs. LL.lawful Found.the-type Found′.the-laws 𝓤 H A W;
-  Asks = λ κs d x. Used d × Fitting (decode (now (d .file))) (x .1 .1 .0) (now (x .1 .1 .1 .0)) (x .1 .1 .1 .1 .0) (now (x .1 .1 .1 .1 .1 .0));
+  Asks = λ κs d x. ViewInUse d × Fitting (decode (now (d .file))) (x .1 .1 .0) (now (x .1 .1 .1 .0)) (x .1 .1 .1 .1 .0) (now (x .1 .1 .1 .1 .1 .0));
   Says = λ κs d x r. LentIs (decode (now (d .file))) (x .0) (x .1 .0) (now (x .1 .1 .1 .0)) (now (x .1 .1 .1 .1 .1 .0)) r;
   in-use = λ κs d x ok. ok .0;
 }

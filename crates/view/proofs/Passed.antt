@@ -143,25 +143,25 @@ module _ {M : Type 1} (𝓤 : URA M) (H : Heap 𝓤) (𝓜 : Model 𝓤 H) (𝓖
 
     module _ (c : Clauses 𝓤 (keeping ss r)) (states : States c) (ps : Passeds ss) (f : Fn) (p : List Statement) (is-code : code p ≡ f .body) where
       -- what p does at the machine values written out: from the fact asked, up to any K that follows from a result of which the fact said holds
-      abbrev pub Walk : Type 2
-      Walk = (κs : Lfts n) (qs : Shares n) (a : Denots (typesAt ss κs)) → Asks κs a → Typed (mirs (typesAt ss κs)) (flat (typesAt ss κs) (values κs ss ps a))
+      abbrev pub Does : Type 2
+      Does = (κs : Lfts n) (qs : Shares n) (a : Denots (typesAt ss κs)) → Asks κs a → Typed (mirs (typesAt ss κs)) (flat (typesAt ss κs) (values κs ss ps a))
           → (K : Val → SProp 𝓤) → ((x : r .row κs .Denot) (out : Val) → Says κs a x → ent 𝓤 (Has 𝓤 H A r κs qs x out) (K out))
           → Params 𝓤 H (f .locals) (flat (typesAt ss κs) (values κs ss ps a)) × ent 𝓤 (Entry 𝓤 H A ss κs qs a (values κs ss ps a)) (does 𝓤 H C (f .locals) p (none ∷ somes (flat (typesAt ss κs) (values κs ss ps a))) K)
 
-      walked : Walk → (κs : Lfts n) (qs : Shares n) (a : Denots (typesAt ss κs)) (g : c κs a .ghost) → Asks κs a → (let vss = values κs ss ps a in Are (typesAt ss κs) (Ises (typesAt ss κs)) a vss
+      runs-so : Does → (κs : Lfts n) (qs : Shares n) (a : Denots (typesAt ss κs)) (g : c κs a .ghost) → Asks κs a → (let vss = values κs ss ps a in Are (typesAt ss κs) (Ises (typesAt ss κs)) a vss
           → ent 𝓤 (Entry 𝓤 H A ss κs qs a vss) (WpFn 𝓤 H C (tables 𝓤 H 𝓜 𝓡 γ .Λ) f (flat (typesAt ss κs) vss) (Done 𝓤 H A ss r c κs qs a vss g)))
-      walked walk κs qs a g ok are =
+      runs-so so κs qs a g ok are =
           let vss : Valss (typesAt ss κs) = values κs ss ps a in
           let K : Val → SProp 𝓤 = Done 𝓤 H A ss r c κs qs a vss g in
-          let w = walk κs qs a ok (all-typed 𝓤 H A (typesAt ss κs) (lawfuls κs 𝓤 H A W ss ps) a vss are) K (λ x out s. ends 𝓤 H A ss r c κs qs a vss g W ps x out (states .says κs a g x (outs κs ss (all-of yes ss) a (finals κs ss ps a)) s)) in
+          let w = so κs qs a ok (all-typed 𝓤 H A (typesAt ss κs) (lawfuls κs 𝓤 H A W ss ps) a vss are) K (λ x out s. ends 𝓤 H A ss r c κs qs a vss g W ps x out (states .says κs a g x (outs κs ss (all-of yes ss) a (finals κs ss ps a)) s)) in
           runs 𝓤 H A W C (tables 𝓤 H 𝓜 𝓡 γ .Λ) fm f p is-code (flat (typesAt ss κs) vss) (w .0) (Entry 𝓤 H A ss κs qs a vss) K (w .1)
 
       -- a function whose code is p meets its contract
-      pub met-by : (key : Name) → Closed 𝓤 H C (tables 𝓤 H 𝓜 𝓡 γ .Λ) key f → Walk → Meets 𝓤 H A (keeping ss r .signature) (𝓡 .run (γ key)) (closing 𝓤 H A (keeping ss r) c)
-      met-by key closed walk = entered 𝓤 H _ C (tables 𝓤 H 𝓜 𝓡 γ .Λ) key f closed (λ y.
+      pub met-by : (key : Name) → Closed 𝓤 H C (tables 𝓤 H 𝓜 𝓡 γ .Λ) key f → Does → Meets 𝓤 H A (keeping ss r .signature) (𝓡 .run (γ key)) (closing 𝓤 H A (keeping ss r) c)
+      met-by key closed so = entered 𝓤 H _ C (tables 𝓤 H 𝓜 𝓡 γ .Λ) key f closed (λ y.
           let κs : Lfts n = y .0 .0 in
           let qs : Shares n = y .0 .1 in
           let a : Denots (typesAt ss κs) = y .0 .3 in
           let Before : SProp 𝓤 = Entry 𝓤 H A ss κs qs a (y .0 .4) in
           via 𝓤 (sep 𝓤 Before (fact 𝓤 (Asks κs a))) (monoR 𝓤 Before (states .asks κs a (y .1))) (needs 𝓤 (Asks κs a) Before (λ ok.
-          said 𝓤 H A (keeping ss r .signature) κs qs (spells κs ss ps) (tellss κs ss ps) a (λ us. WpFn 𝓤 H C (tables 𝓤 H 𝓜 𝓡 γ .Λ) f (flat (typesAt ss κs) us) (Done 𝓤 H A ss r c κs qs a us (y .1))) (y .0 .4) (λ are. walked walk κs qs a (y .1) ok are))))
+          said 𝓤 H A (keeping ss r .signature) κs qs (spells κs ss ps) (tellss κs ss ps) a (λ us. WpFn 𝓤 H C (tables 𝓤 H 𝓜 𝓡 γ .Λ) f (flat (typesAt ss κs) us) (Done 𝓤 H A ss r c κs qs a us (y .1))) (y .0 .4) (λ are. runs-so so κs qs a (y .1) ok are))))

@@ -69,6 +69,7 @@ module _ (m : ℕ) where
   abbrev pub file : Slot (suc m)
   file = shrSliceOf (0 ∷ []) tt (plain (λ _. u8))
 
+  -- a `u64` is passed alike
   abbrev pub count : Slot (suc m)
   count = plain (λ _. usize)
 
@@ -146,9 +147,9 @@ module _ {M : Type 1} (𝓤 : URA M) (H : Heap 𝓤) (𝓜 : Model 𝓤 H) (𝓖
       let d : View = a .0 in
       let A : Atoms 𝓤 = 𝓖 .A in
       let W : Given 𝓤 H A = givenOf 𝓤 H 𝓜 𝓖 in
-      let walked = so d K (typed .0) in (
-        walked .0,
+      let done-so = so d K (typed .0) in (
+        done-so .0,
         via 𝓤 (Has 𝓤 H A (count 0) κs qs (g d) (vint w64 (g d)))
-            (qed W (raw (toks 𝓤 A 1 κs qs) ∷ ‵ (owns (typesAt (view 0 ∷ []) κs) a (values κs (view 0 ∷ []) (a-view 0, tt) a)) ∷ []) ∵ frame ! $ drop ! $ owned ! usize (Is usize) (uint-makes 𝓤 H A W w64) (g d) _ (refl, walked .1) $ done !)
-            (via 𝓤 _ (back (g d) (vint w64 (g d)) refl) (walked .2)),
+            (qed W (raw (toks 𝓤 A 1 κs qs) ∷ ‵ (owns (typesAt (view 0 ∷ []) κs) a (values κs (view 0 ∷ []) (a-view 0, tt) a)) ∷ []) ∵ frame ! $ drop ! $ owned ! usize (Is usize) (uint-makes 𝓤 H A W w64) (g d) _ (refl, done-so .1) $ done !)
+            (via 𝓤 _ (back (g d) (vint w64 (g d)) refl) (done-so .2)),
       ))

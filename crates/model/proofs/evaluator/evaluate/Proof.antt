@@ -18,11 +18,6 @@ use Rattle.model.proofs.Sizes.{line-fits}
 use borrow.Author.Needs.{needs}
 use Rattle.model.proofs.evaluator.evaluate.Statement.{statement}
 use Rattle.model.proofs.evaluator.evaluate.Tie as tie
-use Rattle.model.proofs.evaluator.evaluate.Reads as reads
-use Rattle.model.proofs.evaluator.evaluate.Lts as lts
-use Rattle.model.proofs.evaluator.line_value.Reads as line-value-reads
-use Rattle.model.proofs.layout.Model.kinds_at.Reads as kinds-at-reads
-use Rattle.model.proofs.layout.Model.words_at.Reads as words-at-reads
 
 record Going (file xs : List ℕ) (n d kinds-at at set i : ℕ) : Type 0 where
   passed : i ≤ n

@@ -1,5 +1,5 @@
 -- The cycle of calls of `routes::built_route`: a least and a greatest level go over the children of a built-in tree by its halves,
--- and each child is worked out by the level below. The measure is made of the levels left, 66 for each, and the n of the tree S(n, h) gone
+-- and each child is worked out by the level below; with no level below, the innermost loop goes over the leaves. The measure is made of the levels left, 66 for each, and the n of the tree S(n, h) gone
 -- over, at most 64.
 -- Assumes nothing.
 use mathlib.Core.Path.{_≡_, refl, sym, _∙_}

@@ -1,5 +1,5 @@
 -- The cycle of calls of `routes::lent_route`: a least and a greatest level cut the first child off their tree, have the level below work it
--- out, and go on with what is left. The measure is made of the levels left, 1026 for each, and the gaps of the tree gone over, at most 1023.
+-- out, and go on with what is left; with no level below, the innermost loop goes over the leaves. The measure is made of the levels left, 1026 for each, and the gaps of the tree gone over, at most 1023.
 -- Assumes nothing.
 use mathlib.Core.Path.{_≡_, refl, sym, _∙_}
 use Prim.Native.Nat.{ℕ, suc, _+_, _-_, _*_, _<_}
