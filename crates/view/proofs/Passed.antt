@@ -143,12 +143,12 @@ module _ {M : Type 1} (𝓤 : URA M) (H : Heap 𝓤) (𝓜 : Model 𝓤 H) (𝓖
 
     module _ (c : Clauses 𝓤 (keeping ss r)) (states : States c) (ps : Passeds ss) (f : Fn) (p : List Statement) (is-code : code p ≡ f .body) where
       -- what p does at the machine values written out: from the fact asked, up to any K that follows from a result of which the fact said holds
-      abbrev pub Does : Type 2
-      Does = (κs : Lfts n) (qs : Shares n) (a : Denots (typesAt ss κs)) → Asks κs a → Typed (mirs (typesAt ss κs)) (flat (typesAt ss κs) (values κs ss ps a))
+      abbrev pub DoesAsSaid : Type 2
+      DoesAsSaid = (κs : Lfts n) (qs : Shares n) (a : Denots (typesAt ss κs)) → Asks κs a → Typed (mirs (typesAt ss κs)) (flat (typesAt ss κs) (values κs ss ps a))
           → (K : Val → SProp 𝓤) → ((x : r .row κs .Denot) (out : Val) → Says κs a x → ent 𝓤 (Has 𝓤 H A r κs qs x out) (K out))
           → Params 𝓤 H (f .locals) (flat (typesAt ss κs) (values κs ss ps a)) × ent 𝓤 (Entry 𝓤 H A ss κs qs a (values κs ss ps a)) (does 𝓤 H C (f .locals) p (none ∷ somes (flat (typesAt ss κs) (values κs ss ps a))) K)
 
-      runs-so : Does → (κs : Lfts n) (qs : Shares n) (a : Denots (typesAt ss κs)) (g : c κs a .ghost) → Asks κs a → (let vss = values κs ss ps a in Are (typesAt ss κs) (Ises (typesAt ss κs)) a vss
+      runs-so : DoesAsSaid → (κs : Lfts n) (qs : Shares n) (a : Denots (typesAt ss κs)) (g : c κs a .ghost) → Asks κs a → (let vss = values κs ss ps a in Are (typesAt ss κs) (Ises (typesAt ss κs)) a vss
           → ent 𝓤 (Entry 𝓤 H A ss κs qs a vss) (WpFn 𝓤 H C (tables 𝓤 H 𝓜 𝓡 γ .Λ) f (flat (typesAt ss κs) vss) (Done 𝓤 H A ss r c κs qs a vss g)))
       runs-so so κs qs a g ok are =
           let vss : Valss (typesAt ss κs) = values κs ss ps a in
@@ -157,7 +157,7 @@ module _ {M : Type 1} (𝓤 : URA M) (H : Heap 𝓤) (𝓜 : Model 𝓤 H) (𝓖
           runs 𝓤 H A W C (tables 𝓤 H 𝓜 𝓡 γ .Λ) fm f p is-code (flat (typesAt ss κs) vss) (w .0) (Entry 𝓤 H A ss κs qs a vss) K (w .1)
 
       -- a function whose code is p meets its contract
-      pub met-by : (key : Name) → Closed 𝓤 H C (tables 𝓤 H 𝓜 𝓡 γ .Λ) key f → Does → Meets 𝓤 H A (keeping ss r .signature) (𝓡 .run (γ key)) (closing 𝓤 H A (keeping ss r) c)
+      pub met-by : (key : Name) → Closed 𝓤 H C (tables 𝓤 H 𝓜 𝓡 γ .Λ) key f → DoesAsSaid → Meets 𝓤 H A (keeping ss r .signature) (𝓡 .run (γ key)) (closing 𝓤 H A (keeping ss r) c)
       met-by key closed so = entered 𝓤 H _ C (tables 𝓤 H 𝓜 𝓡 γ .Λ) key f closed (λ y.
           let κs : Lfts n = y .0 .0 in
           let qs : Shares n = y .0 .1 in
