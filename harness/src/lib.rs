@@ -3,7 +3,7 @@
 //! - `ffi`: the engine's operations.
 //! - `reference`: an unrelated implementation of document 01, which the tests compare the engine with.
 //! - `random`: models, files, bounds and trees from a seed.
-//! - `baseline`: the engine's own algorithm in Rust, which the benchmark compares its speed with.
+//! - `baseline`: the routes in Rust, which the benchmark compares the engine's speed with.
 
 mod answer;
 pub mod baseline;

@@ -1,4 +1,5 @@
-//! Speed of the engine beside the same algorithm in safe Rust, both called in turn in one run.
+//! Speed of the engine beside safe Rust, with a whole query at each leaf and with the engine's own algorithm, all called in
+//! turn in one run.
 //!
 //! `cargo run --release` takes some minutes, `cargo run --release -- --quick` some seconds.
 
@@ -6,9 +7,10 @@ use std::hint::black_box;
 use std::process::{Command, Stdio};
 use std::time::Instant;
 
+use harness::baseline::{by_levels, whole};
 use harness::random::{self, full, Density, Random};
 use harness::reference::{Model, Tree};
-use harness::{baseline, ffi, Answer};
+use harness::{ffi, Answer};
 
 /// Where a plain run is cut off, so that each ends in reasonable time.
 const CEILING: u64 = 200_000;
@@ -34,11 +36,23 @@ const FULL: Effort =
 const QUICK: Effort =
     Effort { models: 3, large_models: 1, samples: 5, seconds: 0.005, most_queries: 500_000 };
 
-/// The median times of one judgement, in seconds.
+/// Who judges.
+#[derive(Clone, Copy)]
+enum Judge {
+    Engine,
+    /// Rust with a whole query at each leaf.
+    Whole,
+    /// Rust with the engine's own algorithm.
+    Levels,
+}
+
+const JUDGES: [Judge; 3] = [Judge::Engine, Judge::Whole, Judge::Levels];
+
+/// The median times of one judgement, in seconds, in the order of `JUDGES`, and the medians of the engine's time as a
+/// multiple of each.
 struct Times {
-    engine: f64,
-    rust: f64,
-    ratio: f64,
+    seconds: [f64; 3],
+    ratios: [f64; 3],
 }
 
 fn median(mut times: Vec<f64>) -> f64 {
@@ -55,36 +69,28 @@ fn timed(calls: usize, model: &Subject, judge: &dyn Fn(&Subject) -> Answer) -> f
     start.elapsed().as_secs_f64()
 }
 
-/// Calls both in turn, model by model, so that a machine that slows down for a while slows both. What takes long is repeated
+/// Calls all in turn, model by model, so that a machine that slows down for a while slows all. What takes long is repeated
 /// less, but five times at the least.
-fn measure(
-    effort: Effort,
-    models: &[Subject],
-    engine: &dyn Fn(&Subject) -> Answer,
-    rust: &dyn Fn(&Subject) -> Answer,
-) -> Times {
-    let once: f64 = models.iter().map(|model| timed(1, model, engine)).sum();
-    let calls = (effort.seconds / once).ceil() as usize;
-    let samples = if once > 0.05 { 5 } else { effort.samples };
-    let (mut engine_times, mut rust_times, mut ratios) = (Vec::new(), Vec::new(), Vec::new());
+fn measure(effort: Effort, models: &[Subject], judges: [&dyn Fn(&Subject) -> Answer; 3]) -> Times {
+    let once = |judge| models.iter().map(|model| timed(1, model, judge)).sum::<f64>();
+    let calls = judges.map(|judge| (effort.seconds / once(judge)).ceil() as usize);
+    let samples = if once(judges[1]) > 0.05 { 5 } else { effort.samples };
+    let (mut seconds, mut ratios) = ([const { Vec::new() }; 3], [const { Vec::new() }; 3]);
     for sample in 0..samples {
-        let (mut engine_time, mut rust_time) = (0.0, 0.0);
+        let mut times = [0.0; 3];
         for (i, model) in models.iter().enumerate() {
-            // The other one first every other time.
-            if (sample + i) % 2 == 0 {
-                engine_time += timed(calls, model, engine);
-                rust_time += timed(calls, model, rust);
-            } else {
-                rust_time += timed(calls, model, rust);
-                engine_time += timed(calls, model, engine);
+            // Another one first every time.
+            for turn in 0..judges.len() {
+                let at = (sample + i + turn) % judges.len();
+                times[at] += timed(calls[at], model, judges[at]) / (calls[at] * models.len()) as f64;
             }
         }
-        let judgements = (calls * models.len()) as f64;
-        engine_times.push(engine_time / judgements);
-        rust_times.push(rust_time / judgements);
-        ratios.push(engine_time / rust_time);
+        for at in 0..judges.len() {
+            seconds[at].push(times[at]);
+            ratios[at].push(times[0] / times[at]);
+        }
     }
-    Times { engine: median(engine_times), rust: median(rust_times), ratio: median(ratios) }
+    Times { seconds: seconds.map(median), ratios: ratios.map(median) }
 }
 
 #[derive(Clone, Copy, Debug, PartialEq)]
@@ -170,21 +176,19 @@ impl Subject {
         }
     }
 
-    fn engine(&self, route: Route) -> Answer {
+    fn judged(&self, judge: Judge, route: Route) -> Answer {
         let (file, a, b) = (black_box(&self.file[..]), black_box(0), black_box(full(self.lines)));
-        match route {
-            Route::Built => ffi::built(file, a, b),
-            Route::Lent => ffi::lent(file, a, b, black_box(&self.u), black_box(&self.v)),
-            Route::Plain => ffi::plain(file, a, b, black_box(CEILING)),
-        }
-    }
-
-    fn rust(&self, route: Route) -> Answer {
-        let (file, a, b) = (black_box(&self.file[..]), black_box(0), black_box(full(self.lines)));
-        match route {
-            Route::Built => baseline::built(file, a, b),
-            Route::Lent => baseline::lent(file, a, b, black_box(&self.u), black_box(&self.v)),
-            Route::Plain => baseline::plain(file, a, b, black_box(CEILING)),
+        let (u, v) = (black_box(&self.u[..]), black_box(&self.v[..]));
+        match (judge, route) {
+            (Judge::Engine, Route::Built) => ffi::built(file, a, b),
+            (Judge::Engine, Route::Lent) => ffi::lent(file, a, b, u, v),
+            (Judge::Engine, Route::Plain) => ffi::plain(file, a, b, black_box(CEILING)),
+            (Judge::Whole, Route::Built) => whole::built(file, a, b),
+            (Judge::Whole, Route::Lent) => whole::lent(file, a, b, u, v),
+            (Judge::Whole, Route::Plain) => whole::plain(file, a, b, black_box(CEILING)),
+            (Judge::Levels, Route::Built) => by_levels::built(file, a, b),
+            (Judge::Levels, Route::Lent) => by_levels::lent(file, a, b, u, v),
+            (Judge::Levels, Route::Plain) => by_levels::plain(file, a, b, black_box(CEILING)),
         }
     }
 }
@@ -210,8 +214,19 @@ fn time(seconds: f64) -> String {
 fn heading(title: &str) {
     println!("\n{title}");
     println!(
-        "{:5} {:>5} {:>6} {:6} {:>9} {:>9} {:>9} {:>6} {:>6} {:>6} {:>6}",
-        "route", "lines", "levels", "model", "queries", "engine", "Rust", "Mq/s", "Rust", "ratio", "growth"
+        "{:5} {:>5} {:>6} {:6} {:>9} {:>9} {:>9} {:>9} {:>7} {:>6} {:>6} {:>6}",
+        "route",
+        "lines",
+        "levels",
+        "model",
+        "queries",
+        "engine",
+        "whole",
+        "levels",
+        "Mq/s",
+        "whole",
+        "levels",
+        "growth"
     );
 }
 
@@ -232,38 +247,46 @@ fn row(
     let models: Vec<Subject> = (1..=count).map(|seed| make(seed, lines, levels)).collect();
     let mut total = 0;
     for model in &models {
-        let answer = model.engine(route);
-        assert_eq!(answer, model.rust(route), "the engine and Rust judge differently");
+        let answer = model.judged(Judge::Engine, route);
+        for judge in JUDGES {
+            assert_eq!(answer, model.judged(judge, route), "the engine and Rust judge differently");
+        }
         // A plain run that was cut off has made as many queries as it may.
         total += if answer.number == 10 { CEILING } else { answer.count };
     }
-    let times = measure(effort, &models, &|model| model.engine(route), &|model| model.rust(route));
+    let by = |judge| move |model: &Subject| model.judged(judge, route);
+    let (engine, whole, levelled) = (by(Judge::Engine), by(Judge::Whole), by(Judge::Levels));
+    let Times { seconds, ratios } = measure(effort, &models, [&engine, &whole, &levelled]);
     let queries = total as f64 / models.len() as f64;
-    let rate = |seconds: f64| queries / seconds / 1e6;
     println!(
-        "{:5} {:5} {:6} {:6} {:9.0} {:>9} {:>9} {:6.2} {:6.2} {:6.2} {:>6}",
+        "{:5} {:5} {:6} {:6} {:9.0} {:>9} {:>9} {:>9} {:7.2} {:6.3} {:6.2} {:>6}",
         route.name(),
         lines,
         levels,
         first.name,
         queries,
-        time(times.engine),
-        time(times.rust),
-        rate(times.engine),
-        rate(times.rust),
-        times.ratio,
-        before.map_or(String::new(), |before| format!("{:.1}", times.engine / before)),
+        time(seconds[0]),
+        time(seconds[1]),
+        time(seconds[2]),
+        queries / seconds[0] / 1e6,
+        ratios[1],
+        ratios[2],
+        before.map_or(String::new(), |before| format!("{:.1}", seconds[0] / before)),
     );
-    Some(times.engine)
+    Some(seconds[0])
 }
 
 // ---- the stack of the deepest lent run ----
 
 /// Judges with 1,023 gaps on both sides, all at the root, and 8 levels: the most calls within calls.
-fn deepest_run(engine: bool) -> u64 {
+fn deepest_run(judge: Judge) -> u64 {
     let model = random::model(&mut Random::new(7), 1, &random::alternating(8, false), Density::Few);
     let (file, gaps) = (model.file(), [4; 1023]);
-    let judge = if engine { ffi::lent } else { baseline::lent };
+    let judge = match judge {
+        Judge::Engine => ffi::lent,
+        Judge::Whole => whole::lent,
+        Judge::Levels => by_levels::lent,
+    };
     judge(&file, 0, 1, &gaps, &gaps).count
 }
 
@@ -296,7 +319,7 @@ fn stack_needed(who: &str) -> Option<usize> {
 
 fn print_stacks() {
     println!("\nstack of the deepest lent run: 8 levels, 1,023 gaps on both sides");
-    for who in ["engine", "Rust"] {
+    for who in ["engine", "whole", "levels"] {
         match stack_needed(who) {
             Some(kib) => println!("{who:6} {kib:6} KiB"),
             None => println!("{who:6} more than 8192 KiB"),
@@ -306,20 +329,22 @@ fn print_stacks() {
 
 /// Ends without an error if the deepest run does so on a thread with this stack.
 fn run_on(who: &str, kib: &str) {
-    let engine = who == "engine";
+    let judge = match who {
+        "engine" => Judge::Engine,
+        "whole" => Judge::Whole,
+        _ => Judge::Levels,
+    };
     let stack = 1024 * kib.parse::<usize>().expect("a number of KiB");
-    let thread = std::thread::Builder::new().stack_size(stack).spawn(move || deepest_run(engine));
+    let thread = std::thread::Builder::new().stack_size(stack).spawn(move || deepest_run(judge));
     assert_eq!(thread.expect("a thread").join().expect("a run"), 1024 * 1024);
 }
 
 fn benchmark(effort: Effort) {
     let Effort { models, large_models, .. } = effort;
-    println!("Time of one judgement between empty and full, the engine's and Rust's: the mean over {models} random");
-    println!("models ({large_models} where one takes over a million queries), and of that the median of several times in");
-    println!(
-        "turn; the mean queries, and millions of them a second; ratio: median of engine's time / Rust's;"
-    );
-    println!("growth: engine's time / the row's before. Signs and kinds alternate.");
+    println!("Time of one judgement between empty and full: the engine's, that of Rust with a whole query at each leaf, and");
+    println!("that of Rust with the engine's own algorithm; each the mean over {models} random models ({large_models} where one takes");
+    println!("over a million queries), and of that the median of several times in turn. The mean queries, and millions of them");
+    println!("a second; medians of engine's time / Rust's; growth: engine's time / the row's before. Signs and kinds alternate.");
 
     for (route, title) in [
         (Route::Built, "by built-in trees, 64 lines"),

@@ -1,10 +1,11 @@
-//! The benchmark's Rust implementation against the reference, so that the benchmark compares equal work.
+//! The benchmark's Rust implementations against the reference, so that the benchmark compares equal work.
 
+use harness::baseline::{by_levels, whole};
 use harness::random::{self, Random};
-use harness::{baseline, reference};
+use harness::reference;
 
 #[test]
-fn the_baseline_judges_as_the_reference_does() {
+fn the_baselines_judge_as_the_reference_does() {
     let mut random = Random::new(901);
     let mut seen = [0; 12];
     for _ in 0..5000 {
@@ -19,12 +20,16 @@ fn the_baseline_judges_as_the_reference_does() {
             trees[side] = random::bad_tree(&mut random, heights[side]);
         }
         let [u, v] = &trees;
-        let lent = baseline::lent(file, a, b, u, v);
+        let lent = whole::lent(file, a, b, u, v);
         assert_eq!(lent, reference::lent(file, a, b, u, v), "{trees:?} {case:?}");
-        let plain = baseline::plain(file, a, b, 100);
+        assert_eq!(lent, by_levels::lent(file, a, b, u, v), "{trees:?} {case:?}");
+        let plain = whole::plain(file, a, b, 100);
         assert_eq!(plain, reference::plain(file, a, b, 100), "{case:?}");
+        assert_eq!(plain, by_levels::plain(file, a, b, 100), "{case:?}");
         if n <= 8 {
-            assert_eq!(baseline::built(file, a, b), reference::built(file, a, b), "{case:?}");
+            let built = reference::built(file, a, b);
+            assert_eq!(whole::built(file, a, b), built, "{case:?}");
+            assert_eq!(by_levels::built(file, a, b), built, "{case:?}");
         }
         seen[lent.number as usize] += 1;
         seen[plain.number as usize] += 1;

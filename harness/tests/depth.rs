@@ -1,5 +1,5 @@
-//! The deepest runs of the lent route: 8 levels, and 1,023 gaps on both sides. The engine calls itself once for each
-//! gap, and nothing in it bounds the stack, so the runs are made on stacks of known sizes.
+//! The longest runs of the lent route: 8 levels, and 1,023 gaps on both sides. The engine goes over the gaps in a loop and
+//! calls itself once for each level; no proof bounds the stack, so the runs are made on stacks of known sizes.
 
 use std::thread;
 
@@ -9,6 +9,7 @@ use harness::reference::{set_of, word_of, Model, Tree};
 use harness::{ffi, Answer};
 
 const GAPS: usize = 1023;
+const KIB: usize = 1 << 10;
 const MIB: usize = 1 << 20;
 
 /// A model of three lines and eight levels of alternating signs, level 8 greatest or least.
@@ -44,12 +45,12 @@ fn the_deepest_runs_end_on_a_main_threads_stack() {
     }
 }
 
-/// Rust gives its threads 2 MiB where nothing else is asked for; the benchmark prints how much is needed.
+/// Eight calls within each other need little, whatever the trees; the benchmark prints how much.
 #[test]
-fn the_deepest_runs_end_on_an_ordinary_threads_stack() {
+fn the_deepest_runs_end_on_a_small_stack() {
     for outermost_greatest in [false, true] {
         for gaps in full_trees() {
-            let answer = judge_on(2 * MIB, model(outermost_greatest).file(), gaps.clone(), gaps);
+            let answer = judge_on(64 * KIB, model(outermost_greatest).file(), gaps.clone(), gaps);
             assert_eq!((answer.number, answer.count), (0, 1024 * 1024));
         }
     }

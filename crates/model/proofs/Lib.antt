@@ -8,9 +8,6 @@ pub mod Refusals
 pub mod Accepted
 pub mod RoundTrip
 pub mod Passed
-pub mod Masks
-pub mod Operands
-pub mod LineValues
 pub mod Monotone
 pub mod Outcome
 pub mod ReadBack

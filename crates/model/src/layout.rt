@@ -47,14 +47,14 @@ impl Model {
         Reading::Accepted(Model { lines, levels })
     }
 
-    pub(crate) fn kinds_at(self) -> usize
+    pub fn kinds_at(self) -> usize
         requires { ⌜ self .levels ≤ 8 ⌝ }
         ensures { λ r. ⌜ r ≡ kindsAt (self .levels) ⌝ }
     {
         Model::SIGNS_AT + self.levels
     }
 
-    pub(crate) fn words_at(self) -> usize
+    pub fn words_at(self) -> usize
         requires { ⌜ (self .lines ≤ 64) × (self .levels ≤ 8) ⌝ }
         ensures { λ r. ⌜ r ≡ wordsAt (self .lines) (self .levels) ⌝ }
     {

@@ -38,7 +38,7 @@ pub(crate) fn u32_at(s: &[u8], at: usize) -> u32
     four_bytes(u16_at(s, at), u16_at(s, at + 2))
 }
 
-pub(crate) fn u64_at(s: &[u8], at: usize) -> u64
+pub fn u64_at(s: &[u8], at: usize) -> u64
     requires { ⌜ at + 8 ≤ length (now s) ⌝ }
     ensures { λ r. ⌜ r ≡ numberAt (now (s .entry)) at 8 ⌝ }
 {

@@ -1,12 +1,15 @@
 -- The first gap of a tree's height cuts its root's first child off: the gaps before it are that child, and those after it have the other children.
 -- Assumes nothing.
+use mathlib.Core.Bool.{Bool, true, false}
 use mathlib.Core.List.{List, [], _∷_}
-use mathlib.Core.Path.{_≡_, sym, _∙_, ap}
-use Prim.Native.Nat.{ℕ, zero, suc, _+_, _-_, _<_}
+use mathlib.Core.Path.{_≡_, refl, sym, _∙_, ap}
+use Prim.Native.Nat.{ℕ, zero, suc, _+_, _-_, _<_, _≤_}
 use native.Mathlib.Numerals.{add-one}
 use native.Mathlib.Omega.{arith}
 use lib.ListN.{length, getD, take, drop, length-take, length-drop}
-use lib.Seq.{split-at, take-all}
+use lib.Seq.{split-at, take-all, drop-drop}
+use lib.Dec.{ltb}
+use borrow.Author.Tests.{ltb-true, ltb-false}
 use Rattle.lists.proofs.Front.{rest-whole}
 use Rattle.trees.specs.Tree.{IsTree, leaf, gap, children}
 use Rattle.trees.proofs.Children.{part-alone, part-first}
@@ -16,12 +19,20 @@ use Rattle.routes.specs.Parts.{Lent}
 abbrev pub NoneBefore : List ℕ → ℕ → ℕ → Type 0
 NoneBefore gaps h r = (i : ℕ) → i < r → getD gaps i 0 ≡ h → ⊥
 
--- the gaps after gap r
-abbrev pub after : List ℕ → ℕ → List ℕ
-after gaps r = take (length gaps - (r + 1)) (drop (r + 1) gaps)
+-- the gaps from place r on, and those after gap r
+abbrev pub restOf : List ℕ → ℕ → List ℕ
+restOf gaps r = take (length gaps - r) (drop r gaps)
 
-pub after-shorter : (gaps : List ℕ) (r : ℕ) → r < length gaps → length (after gaps r) < length gaps
-after-shorter gaps r l = rw (rest-whole gaps (r + 1), length-drop) (omega arith)
+abbrev pub after : List ℕ → ℕ → List ℕ
+after gaps r = restOf gaps (r + 1)
+
+pub rest-length : (gaps : List ℕ) (r : ℕ) → length (restOf gaps r) ≡ length gaps - r
+rest-length gaps r = rw (rest-whole gaps r) (length-drop r gaps)
+
+pub rest-after : (gaps : List ℕ) (from cut : ℕ) → after (restOf gaps from) cut ≡ restOf gaps (from + cut + 1)
+rest-after gaps from cut =
+    let e : from + (cut + 1) ≡ from + cut + 1 = omega arith in
+    rest-whole (restOf gaps from) (cut + 1) ∙ rw (rest-whole gaps from, rest-whole gaps (from + cut + 1), drop-drop (cut + 1) from gaps, e)
 
 -- parts of trees
 
@@ -37,6 +48,10 @@ drop-tree zero i = i
 drop-tree (suc r) leaf = leaf
 drop-tree (suc r) (gap low high i) = drop-tree r i
 
+-- what is left of a lent tree may be lent too
+pub rest-lent : {hu : ℕ} (u : List ℕ) (from : ℕ) → Lent hu u → Lent hu (restOf u from)
+rest-lent u from l = rw (rest-whole u from) (record { tree = drop-tree from (l .tree); few = rw length-drop (omega (arith, l .few)) })
+
 -- a lent tree, cut at its first gap of its height
 module _ {h hu : ℕ} (u : List ℕ) (cut : ℕ) (suc-h : hu ≡ suc h) (lent : Lent hu u) (free : NoneBefore u hu cut) where
   front : IsTree h (take cut u)
@@ -47,11 +62,6 @@ module _ {h hu : ℕ} (u : List ℕ) (cut : ℕ) (suc-h : hu ≡ suc h) (lent : 
       let e : hu - 1 ≡ h = omega arith in
       record { tree = rw e front; few = rw length-take (omega (arith, lent .few)) }
 
-  pub after-lent : Lent hu (after u cut)
-  after-lent =
-      rw (rest-whole u (cut + 1))
-      (record { tree = drop-tree (cut + 1) (lent .tree); few = rw length-drop (omega (arith, lent .few)) })
-
   pub cut-none : cut ≡ length u → children hu u ≡ take cut u ∷ []
   cut-none e =
       rw suc-h (ap (children (suc h)) (sym (take-all cut u (omega arith))) ∙ part-alone h (take cut u) front)
@@ -60,3 +70,11 @@ module _ {h hu : ℕ} (u : List ℕ) (cut : ℕ) (suc-h : hu ≡ suc h) (lent : 
   cut-first l e =
       rw (rest-whole u (cut + 1), add-one cut, suc-h)
       (ap (children (suc h)) (split-at u cut 0 l ∙ rw (e, suc-h)) ∙ part-first h (take cut u) (drop (suc cut) u) front)
+
+  -- the first child is in front of others, or of none
+  pub cut-child : cut ≤ length u → (cut < length u → getD u cut 0 ≡ hu) → (others : List (List ℕ)) × (children hu u ≡ take cut u ∷ others)
+  cut-child few found = go (ltb cut (length u)) refl
+    where
+      go : (t : Bool) → ltb cut (length u) ≡ t → (others : List (List ℕ)) × (children hu u ≡ take cut u ∷ others)
+      go true e = let l = ltb-true cut (length u) e in (children hu (after u cut), cut-first l (found l))
+      go false e = ([], cut-none (omega (arith, ltb-false cut (length u) e)))

@@ -1,79 +1,96 @@
--- The levels over lent trees: a level over the children of a tree is worked out with its first child, which the first gap of the tree's height
--- cuts off, and then over what is left, with no level below over leaves; it makes few queries.
+-- The levels over lent trees: a level goes over the children of its tree one by one, each cut off by the next gap of the tree's height, with no
+-- level below over leaves; it makes few queries.
 -- Assumes nothing.
 use mathlib.Core.Bool.{true, false}
-use mathlib.Core.List.{List, []}
-use mathlib.Core.Path.{_≡_, refl, sym, _∙_}
-use Prim.Native.Nat.{ℕ, suc, _≤_, _<_, _^_}
+use mathlib.Core.List.{List, [], _∷_, _++_}
+use mathlib.Core.Path.{_≡_, refl, sym, _∙_, ap}
+use Prim.Native.Nat.{ℕ, suc, _+_, _-_, _≤_, _<_, _^_}
 use native.Mathlib.Omega.{arith}
-use lib.ListN.{length, getD, take, set, replicate}
+use lib.ListN.{length, getD, take, length-take, replicate}
+use lib.Seq.{append-snoc}
+use Rattle.lists.proofs.Front.{rest-whole}
 use Rattle.trees.specs.Tree.{children, leaves}
 use Rattle.trees.proofs.Children.{children-leaves}
 use Rattle.fixpoint.specs.Levels.{leastAmong, greatestAmong}
-use Rattle.fixpoint.proofs.Restricted.{fall-is-rise}
+use Rattle.fixpoint.specs.Restricted.{sumOver}
 use Rattle.model.specs.System.{System, sign}
-use Rattle.model.specs.declared.layout.Model.{Model}
 use Rattle.routes.specs.declared.step.Found.{Found}
-use Rattle.routes.specs.Parts.{Gives, Lent, leastOf, greatestOf}
-use Rattle.routes.proofs.OverChildren.{then, Rises, rises-one, rises-cons}
-use Rattle.routes.proofs.Levels.{LevelGives, LeastGives, GreatestGives, at-argument, least-heights, greatest-heights, least-level, greatest-level}
-use Rattle.routes.proofs.QueryBound.{FewQueries, lent-few}
-use Rattle.routes.proofs.FirstChild.{NoneBefore, after, cut-none, cut-first}
+use Rattle.routes.specs.Parts.{Lent, leastOf, greatestOf, riseFrom, riseQueries, fallFrom, fallQueries}
+use Rattle.routes.proofs.ChildrenPassed.{passed-few}
+use Rattle.routes.proofs.Levels.{LeastGives, GreatestGives, least-heights, greatest-heights, least-level, greatest-level}
+use Rattle.routes.proofs.QueryBound.{lent-few}
+use Rattle.routes.proofs.FirstChild.{NoneBefore, restOf, rest-length, rest-after, rest-lent, front-lent, cut-none, cut-first, cut-child}
 
--- a level over the children of a lent tree w of height h + 1, from the value a; r is what its first child gives
-module _ (p : ℕ → ℕ → ℕ → List ℕ → List ℕ → ℕ) (b : ℕ) (v : List ℕ) (count : List ℕ → ℕ)
-    {h hw : ℕ} (w : List ℕ) (cut : ℕ) (suc-h : hw ≡ suc h) (lent : Lent hw w) (free : NoneBefore w hw cut)
-    (a : ℕ) (r : Found) (first : Gives r (p a a b (take cut w) v) (count (take cut w))) where
-  rises-last : cut ≡ length w → Rises p b v count r a (children hw w)
-  rises-last e = rw (cut-none w cut suc-h lent free e) (rises-one p b v count r a (take cut w) first)
+-- the children of a tree that are passed, in front of those of what is left of its gaps
+abbrev pub Split : ℕ → List ℕ → ℕ → List (List ℕ) → Type 0
+Split h u from passed = children h u ≡ passed ++ children h (restOf u from)
 
-  rises-more : cut < length w → getD w cut 0 ≡ hw → (t : Found) → Rises p b v count t (r .set) (children hw (after w cut)) → Rises p b v count (then r t) a (children hw w)
-  rises-more l e t g =
-      rw (cut-first w cut suc-h lent free l e) (rises-cons p b v count r t a (take cut w) (children hw (after w cut)) first g)
+pub split-begin : (h : ℕ) (u : List ℕ) → Split h u 0 []
+split-begin h u = ap (children h) (sym (rest-whole u 0))
 
-module _ (s : System) (m : Model) (k : ℕ) (xs : List ℕ) (a b hu : ℕ) (u : List ℕ) (hv : ℕ) (v : List ℕ) where
-  few-lent : hu ≡ leastOf s (suc k) → Lent hu u → hv ≡ greatestOf s (suc k) → Lent hv v → (r : Found) → LevelGives s m (suc k) xs a b u v r → r .count ≤ 64 ^ 8
-  few-lent eu lu ev lv r g = omega (arith, g .queries, lent-few s (suc k) u v (rw eu at lu) (rw ev at lv))
+-- where the first gap of h stands, or the length where there is none
+abbrev pub FirstGap : ℕ → List ℕ → ℕ → Type 0
+FirstGap h gaps cut = (cut ≤ length gaps) × (NoneBefore gaps h cut × (cut < length gaps → getD gaps cut 0 ≡ h))
 
-  -- with no level below, the children are leaves
-  pub least-leaves : (r : Found) → k ≡ 0 → hu ≡ suc (leastOf s k) → Lent hu u → ((w : List ℕ) → LeastGives s m 0 xs a b (replicate (leaves u) []) w r) → LeastGives s m k xs a b (children hu u) v r
-  unfolding leastAmong
-  least-leaves r z eu lu g =
-      let one : hu ≡ 1 = rw z at eu in
-      rw (z, one, children-leaves u (rw one at (lu .tree))) (g v)
+-- the next child: the gaps from `from` up to the gap `cut`, or to the end
+abbrev pub childAt : List ℕ → ℕ → ℕ → List ℕ
+childAt u from cut = take cut (restOf u from)
 
-  pub greatest-leaves : (r : Found) → k ≡ 0 → hv ≡ suc (greatestOf s k) → Lent hv v → ((w : List ℕ) → GreatestGives s m 0 xs a b w (replicate (leaves v) []) r) → GreatestGives s m k xs a b u (children hv v) r
-  unfolding greatestAmong
-  greatest-leaves r z ev lv g =
-      let one : hv ≡ 1 = rw z at ev in
-      rw (z, one, children-leaves v (rw one at (lv .tree))) (g u)
+pub record NextChild (h : ℕ) (u : List ℕ) (from cut : ℕ) (passed : List (List ℕ)) : Type 0 where
+  pub lent : Lent (h - 1) (childAt u from cut)
+  -- it has no more leaves than the tree
+  pub leaves-few : leaves (childAt u from cut) ≤ leaves u
+  -- the last child, or one in front of others
+  pub last : cut ≡ length (restOf u from) → children h u ≡ passed ++ childAt u from cut ∷ []
+  pub more : cut < length (restOf u from) → Split h u (from + cut + 1) (passed ++ childAt u from cut ∷ [])
+  -- what some count says of the children passed and of this one, of all of them
+  pub count-few : (count : List ℕ → ℕ) → sumOver count (passed ++ childAt u from cut ∷ []) ≤ sumOver count (children h u)
 
-  -- what the first child gives, alone or with what is left
-  module _ (room : m .levels ≤ length xs) (within : k < m .levels) (lu : Lent hu u) (lv : Lent hv v) (cut : ℕ) (first : Found) where
-    module _ (e : sign s k ≡ false) (eu : hu ≡ suc (leastOf s k)) (ev : hv ≡ greatestOf s k) (free : NoneBefore u hu cut) (f : LevelGives s m k (set xs k a) a b (take cut u) v first) where
-      pub least-last : cut ≡ length u → LeastGives s m k xs a b (children hu u) v first
-      least-last end = rises-last _ _ _ _ u cut eu lu free a first (at-argument s m k xs a b (take cut u) v first a within room f) end
+pub next-child : {h below : ℕ} (u : List ℕ) (from cut : ℕ) (passed : List (List ℕ)) → h ≡ suc below → Lent h u → Split h u from passed → FirstGap h (restOf u from) cut
+    → NextChild h u from cut passed
+next-child {h} u from cut passed suc-h tree split first =
+    let rest = restOf u from in
+    let lent = rest-lent u from tree in
+    let free = first .1 .0 in
+    let others = cut-child rest cut suc-h lent free (first .0) (first .1 .1) in
+    let behind : (ts : List (List ℕ)) → children h rest ≡ childAt u from cut ∷ ts → children h u ≡ (passed ++ childAt u from cut ∷ []) ++ ts =
+    λ ts e. split ∙ ap (λ (l : List (List ℕ)). passed ++ l) e ∙ sym (append-snoc passed (childAt u from cut) ts) in
+    record {
+      lent = front-lent rest cut suc-h lent free;
+      leaves-few = rw length-take (omega (arith, rest-length u from));
+      last = λ e. split ∙ ap (λ (l : List (List ℕ)). passed ++ l) (cut-none rest cut suc-h lent free e);
+      more = λ l. rw (← (rest-after u from cut)) (behind _ (cut-first rest cut suc-h lent free l (first .1 .1 l)));
+      count-few = λ count. passed-few count (passed ++ childAt u from cut ∷ []) (others .0) (behind (others .0) (others .1));
+    }
 
-      pub least-more : cut < length u → getD u cut 0 ≡ hu → (rest : Found) → LeastGives s m k xs (first .set) b (children hu (after u cut)) v rest
-          → FewQueries (LeastGives s m k xs a b (children hu u) v) (then first rest)
-      least-more l found rest g =
-          let all : LeastGives s m k xs a b (children hu u) v (then first rest) =
-          rises-more _ _ _ _ u cut eu lu free a first (at-argument s m k xs a b (take cut u) v first a within room f) l found rest g in
-          let h = least-heights s refl e in
-          let eu′ : hu ≡ leastOf s (suc k) = eu ∙ sym (h .0) in
-          record { gives = all; few = few-lent eu′ lu (ev ∙ sym (h .1)) lv _ (least-level s refl m xs a b u v _ e (rw eu′ at all)) }
+module _ (s : System) (k hu : ℕ) (u : List ℕ) (hv : ℕ) (v : List ℕ) (lu : Lent hu u) (lv : Lent hv v) where
+  -- all the queries of a level are few
+  pub least-few : sign s k ≡ false → hu ≡ suc (leastOf s k) → hv ≡ greatestOf s k → riseQueries s k (children hu u) v ≤ 64 ^ 8
+  least-few e eu ev =
+      let h = least-heights s refl e in
+      let eu′ : hu ≡ leastOf s (suc k) = eu ∙ sym (h .0) in
+      let all : LeastGives s k [] 0 0 (children (leastOf s (suc k)) u) v (record { set = riseFrom s k [] 0 0 (children (leastOf s (suc k)) u) v; count = riseQueries s k (children (leastOf s (suc k)) u) v }) =
+      record { value = refl; queries = refl } in
+      rw eu′ (omega (arith, least-level s refl [] 0 0 u v _ e all .queries, lent-few s (suc k) u v (rw eu′ at lu) (rw (ev ∙ sym (h .1)) at lv)))
 
-    module _ (e : sign s k ≡ true) (eu : hu ≡ leastOf s k) (ev : hv ≡ suc (greatestOf s k)) (free : NoneBefore v hv cut) (f : LevelGives s m k (set xs k b) a b u (take cut v) first) where
-      pub greatest-last : cut ≡ length v → GreatestGives s m k xs a b u (children hv v) first
-      greatest-last end =
-          rw fall-is-rise (rises-last _ _ _ _ v cut ev lv free b first (at-argument s m k xs a b u (take cut v) first b within room f) end)
+  pub greatest-few : sign s k ≡ true → hu ≡ leastOf s k → hv ≡ suc (greatestOf s k) → fallQueries s k u (children hv v) ≤ 64 ^ 8
+  greatest-few e eu ev =
+      let h = greatest-heights s refl e in
+      let ev′ : hv ≡ greatestOf s (suc k) = ev ∙ sym (h .1) in
+      let all : GreatestGives s k [] 0 0 u (children (greatestOf s (suc k)) v) (record { set = fallFrom s k [] 0 0 u (children (greatestOf s (suc k)) v); count = fallQueries s k u (children (greatestOf s (suc k)) v) }) =
+      record { value = refl; queries = refl } in
+      rw ev′ (omega (arith, greatest-level s refl [] 0 0 u v _ e all .queries, lent-few s (suc k) u v (rw (eu ∙ sym (h .0)) at lu) (rw ev′ at lv)))
 
-      pub greatest-more : cut < length v → getD v cut 0 ≡ hv → (rest : Found) → GreatestGives s m k xs a (first .set) u (children hv (after v cut)) rest
-          → FewQueries (GreatestGives s m k xs a b u (children hv v)) (then first rest)
-      greatest-more l found rest g =
-          let all : GreatestGives s m k xs a b u (children hv v) (then first rest) =
-          rw fall-is-rise
-          (rises-more _ _ _ _ v cut ev lv free b first (at-argument s m k xs a b u (take cut v) first b within room f) l found rest (rw fall-is-rise at g)) in
-          let h = greatest-heights s refl e in
-          let ev′ : hv ≡ greatestOf s (suc k) = ev ∙ sym (h .1) in
-          record { gives = all; few = few-lent (eu ∙ sym (h .0)) lu ev′ lv _ (greatest-level s refl m xs a b u v _ e (rw ev′ at all)) }
+  module _ (ys : List ℕ) (a b : ℕ) where
+    -- with no level below, the children are leaves
+    pub least-leaves : (r : Found) → k ≡ 0 → hu ≡ suc (leastOf s k) → ((w : List ℕ) → LeastGives s 0 ys a b (replicate (leaves u) []) w r) → LeastGives s k ys a b (children hu u) v r
+    unfolding leastAmong
+    least-leaves r z eu g =
+        let one : hu ≡ 1 = rw z at eu in
+        rw (z, one, children-leaves u (rw one at (lu .tree))) (g v)
+
+    pub greatest-leaves : (r : Found) → k ≡ 0 → hv ≡ suc (greatestOf s k) → ((w : List ℕ) → GreatestGives s 0 ys a b w (replicate (leaves v) []) r) → GreatestGives s k ys a b u (children hv v) r
+    unfolding greatestAmong
+    greatest-leaves r z ev g =
+        let one : hv ≡ 1 = rw z at ev in
+        rw (z, one, children-leaves v (rw one at (lv .tree))) (g u)

@@ -2,41 +2,56 @@
 -- Assumes nothing.
 use mathlib.Core.Bool.{true, false}
 use mathlib.Core.List.{List, _∷_}
-use mathlib.Core.Path.{_≡_}
-use Prim.Native.Nat.{ℕ, suc, _+_, _≤_, _<_}
-use native.Mathlib.Numerals.{add-one}
-use lib.ListN.{length, set, take}
+use mathlib.Core.Path.{_≡_, refl, _∙_}
+use Prim.Native.Nat.{ℕ, suc, _+_, _-_, _*_, _<_}
+use native.Mathlib.Omega.{arith}
 use Rattle.sets.specs.Set.{boundedStep}
-use Rattle.trees.specs.Tree.{children}
+use Rattle.trees.specs.Tree.{children, leaves}
 use Rattle.fixpoint.specs.Restricted.{restricted, level, restrictedQueries, levelQueries}
 use Rattle.fixpoint.proofs.Levels.{least-at-least, least-at-greatest, greatest-at-least, greatest-at-greatest}
 use Rattle.model.specs.System.{System, sign}
 use Rattle.model.specs.Query.{query}
-use Rattle.model.specs.declared.layout.Model.{Model}
+use Rattle.evaluator.specs.ByLevels.{Decided}
+use Rattle.evaluator.specs.declared.Pending.{Pending}
+use Rattle.evaluator.proofs.DecidedLines.{decided-all}
 use Rattle.routes.specs.declared.step.Found.{Found}
-use Rattle.routes.specs.Parts.{Gives, above, leastOf, greatestOf, restrictedFrom, queriesFrom, riseFrom, riseQueries, fallFrom, fallQueries}
-use Rattle.routes.proofs.Places.{above-set}
+use Rattle.routes.specs.Parts.{Gives, leastOf, greatestOf, restrictedFrom, queriesFrom, riseFrom, riseQueries, fallFrom, fallQueries}
+use Rattle.routes.proofs.Inside.{Inside, restricted-inside, rise-inside, fall-inside}
 
--- what the levels k, .., 1 give over two trees, and what level k + 1 gives over the children of its tree; the arguments of the levels above stand in xs
-module _ (s : System) (m : Model) (k : ℕ) (xs : List ℕ) (a b : ℕ) where
+-- what the levels k, .., 1 give over two trees, and what level k + 1 gives over the children of its tree; ys are the arguments of the levels above
+module _ (s : System) (k : ℕ) (ys : List ℕ) (a b : ℕ) where
   abbrev pub LevelGives : List ℕ → List ℕ → Found → Type 0
-  LevelGives u v r = Gives r (restrictedFrom s k (above m k xs) a b u v) (queriesFrom s k u v)
+  LevelGives u v r = Gives r (restrictedFrom s k ys a b u v) (queriesFrom s k u v)
 
   abbrev pub LeastGives : List (List ℕ) → List ℕ → Found → Type 0
-  LeastGives us v r = Gives r (riseFrom s k (above m (k + 1) xs) a b us v) (riseQueries s k us v)
+  LeastGives us v r = Gives r (riseFrom s k ys a b us v) (riseQueries s k us v)
 
   abbrev pub GreatestGives : List ℕ → List (List ℕ) → Found → Type 0
-  GreatestGives u vs r = Gives r (fallFrom s k (above m (k + 1) xs) a b u vs) (fallQueries s k u vs)
+  GreatestGives u vs r = Gives r (fallFrom s k ys a b u vs) (fallQueries s k u vs)
 
-module _ (s : System) (m : Model) (k : ℕ) (xs : List ℕ) (a b : ℕ) (u v : List ℕ) (r : Found) where
-  -- with no level left, one query
-  pub no-level : k ≡ 0 → r .set ≡ boundedStep a b (query s (take (m .levels) xs)) → r .count ≡ 1 → LevelGives s m k xs a b u v r
-  unfolding restricted restrictedQueries
-  no-level z x c = rw z (record { value = x; queries = c })
+  -- all of it lies between the bounds' intersection and their union
+  pub level-inside : (u v : List ℕ) (r : Found) → LevelGives u v r → Inside a b (r .set)
+  level-inside u v r g = rw (g .value) (restricted-inside (s .lines) (sign s) (query s) k ys a b u v)
 
-  -- what the levels give, with the next level's argument x stored for it
-  pub at-argument : (x : ℕ) → k < m .levels → m .levels ≤ length xs → LevelGives s m k (set xs k x) a b u v r → Gives r (restrictedFrom s k (x ∷ above m (k + 1) xs) a b u v) (queriesFrom s k u v)
-  at-argument x h l g = rw (add-one k, ← (above-set m xs k x h l)) g
+  pub least-inside : (us : List (List ℕ)) (v : List ℕ) (r : Found) → LeastGives us v r → Inside a b (r .set)
+  least-inside us v r g = rw (g .value) (rise-inside _ (λ c. restricted-inside (s .lines) (sign s) (query s) k (c ∷ ys)) b v a us)
+
+  pub greatest-inside : (u : List ℕ) (vs : List (List ℕ)) (r : Found) → GreatestGives u vs r → Inside a b (r .set)
+  greatest-inside u vs r g = rw (g .value) (fall-inside _ (λ c. restricted-inside (s .lines) (sign s) (query s) k (c ∷ ys)) a u b vs)
+
+-- with no level left, the query is made
+pub no-level : (s : System) (xs : List ℕ) (a b : ℕ) (w : Pending) (u v : List ℕ) (y : ℕ) → Decided s 0 xs a b w → y ≡ boundedStep a b (w .set)
+    → LevelGives s 0 xs a b u v (record { set = y; count = 1 })
+unfolding restricted restrictedQueries
+no-level s xs a b w u v y d e = record { value = e ∙ decided-all s xs a b w d; queries = refl }
+
+-- The number that falls with each call of the tree routes: it is made of the levels left and of the leaves of the two trees together. Two for each level, since a
+-- level is worked out by the evaluator of its sign, which stands between it and the level below.
+abbrev pub fallingNumber : ℕ → List ℕ → List ℕ → ℕ
+fallingNumber k u v = 2 * k + (leaves u + leaves v)
+
+pub one-less : (k : ℕ) → 0 < k → k ≡ suc (k - 1)
+one-less k h = omega arith
 
 -- level k is the next above the levels j, .., 1
 module _ (s : System) {k j : ℕ} (next : k ≡ suc j) where
@@ -46,11 +61,11 @@ module _ (s : System) {k j : ℕ} (next : k ≡ suc j) where
   pub greatest-heights : sign s j ≡ true → (leastOf s k ≡ leastOf s j) × (greatestOf s k ≡ suc (greatestOf s j))
   greatest-heights e = rw next (least-at-greatest (sign s) j e, greatest-at-greatest (sign s) j e)
 
-  module _ (m : Model) (xs : List ℕ) (a b : ℕ) (u v : List ℕ) (r : Found) where
-    pub least-level : sign s j ≡ false → LeastGives s m j xs a b (children (leastOf s k) u) v r → LevelGives s m k xs a b u v r
+  module _ (ys : List ℕ) (a b : ℕ) (u v : List ℕ) (r : Found) where
+    pub least-level : sign s j ≡ false → LeastGives s j ys a b (children (leastOf s k) u) v r → LevelGives s k ys a b u v r
     unfolding restricted level restrictedQueries levelQueries
-    least-level e g = rw (next, e) (rw (next, add-one j) at g)
+    least-level e g = rw (next, e) (rw next at g)
 
-    pub greatest-level : sign s j ≡ true → GreatestGives s m j xs a b u (children (greatestOf s k) v) r → LevelGives s m k xs a b u v r
+    pub greatest-level : sign s j ≡ true → GreatestGives s j ys a b u (children (greatestOf s k) v) r → LevelGives s k ys a b u v r
     unfolding restricted level restrictedQueries levelQueries
-    greatest-level e g = rw (next, e) (rw (next, add-one j) at g)
+    greatest-level e g = rw (next, e) (rw next at g)

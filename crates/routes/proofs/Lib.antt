@@ -1,7 +1,9 @@
 pub mod Places
+pub mod Inside
 pub mod Rounds
 pub mod OverChildren
 pub mod Levels
+pub mod ChildrenPassed
 pub mod InnermostLevels
 pub mod QueryBound
 pub mod FirstChild

@@ -5,7 +5,6 @@ use mathlib.Core.List.{List, [], _∷_, _++_}
 use mathlib.Core.Path.{_≡_, refl, sym, _∙_, ap, ap₂}
 use Prim.Native.Nat.{ℕ, _+_}
 use native.Mathlib.Omega.{arith}
-use lib.Seq.{append-snoc}
 use Rattle.fixpoint.specs.Restricted.{rise, sumOver}
 use Rattle.routes.specs.declared.step.Found.{Found}
 use Rattle.routes.specs.Parts.{Gives}
@@ -43,13 +42,3 @@ module _ (p : ℕ → ℕ → ℕ → List ℕ → List ℕ → ℕ) (b : ℕ) (
         value = g .value ∙ ap (λ (x : ℕ). rise p b v x ws) (f .value) ∙ sym (rise-append p b v a us ws);
         queries = ap₂ _+_ (f .queries) (g .queries) ∙ sym (sum-append count us ws);
       }
-
-  -- a first child, and the others
-  pub rises-cons : (r t : Found) (a : ℕ) (w : List ℕ) (ws : List (List ℕ)) → Gives r (p a a b w v) (count w) → Rises t (r .set) ws → Rises (then r t) a (w ∷ ws)
-  rises-cons r t a w ws f g = rises-append r t a (w ∷ []) ws (rises-one r a w f) g
-
-  -- some children, one more, and the others
-  pub rises-around : (r m t : Found) (a : ℕ) (us : List (List ℕ)) (w : List ℕ) (ws : List (List ℕ)) → Rises r a us → Gives m (p (r .set) (r .set) b w v) (count w) → Rises t (m .set) ws → Rises (then (then r m) t) a (us ++ w ∷ ws)
-  rises-around r m t a us w ws f g h =
-      rw (← (append-snoc us w ws))
-      (rises-append (then r m) t a (us ++ w ∷ []) ws (rises-append r m a us (w ∷ []) f (rises-one m (r .set) w g)) h)

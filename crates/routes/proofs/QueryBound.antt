@@ -12,13 +12,7 @@ use Rattle.trees.proofs.Built.{leaf-none, leaf-zero, leaf-step, built-tree}
 use Rattle.fixpoint.proofs.Levels.{levels-sum}
 use Rattle.fixpoint.proofs.Queries.{queries-product}
 use Rattle.model.specs.System.{System, sign}
-use Rattle.routes.specs.declared.step.Found.{Found}
 use Rattle.routes.specs.Parts.{leastOf, greatestOf, queriesFrom, LineCount, Lent}
-
--- what a level gives, in few queries
-pub record FewQueries (Given : Found → Type 0) (r : Found) : Type 0 where
-  pub gives : Given r
-  pub few : r .count ≤ 64 ^ 8
 
 -- L(n, h) is at most 64 ^ h for n up to 64
 

@@ -18,6 +18,13 @@ fits rest r h = rw (le-leb (r .queries) rest h)
 pub exceeds : (rest : ℕ) (r : Run ℕ) → rest < r .queries → under rest r ≡ Spent
 exceeds rest r h = rw (lt-leb (r .queries) rest h)
 
+-- a run of one query
+pub one-query : (rest x : ℕ) → (rest ≡ 0 → ⊥) → under rest (record { value = x; queries = 1 }) ≡ Settled x (rest - 1)
+one-query rest x ne = fits rest (record { value = x; queries = 1 }) (omega arith)
+
+pub no-query : (rest x : ℕ) → rest ≡ 0 → under rest (record { value = x; queries = 1 }) ≡ Spent
+no-query rest x e = exceeds rest (record { value = x; queries = 1 }) (omega arith)
+
 -- what an outcome tells of the run
 pub record Fits (rest : ℕ) (r : Run ℕ) (set left : ℕ) : Type 0 where
   pub few : r .queries ≤ rest

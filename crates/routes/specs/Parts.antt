@@ -1,15 +1,13 @@
--- What the evaluators compute on the way: the definitions of Routes.antt with some levels left, for the model of a lent file.
+-- What the evaluators compute on the way: the definitions of Routes.antt with some levels left.
 -- Assumes nothing.
 use mathlib.Core.Bool.{cond}
 use mathlib.Core.List.{List, _∷_}
 use mathlib.Core.Path.{_≡_}
 use Prim.Native.Nat.{ℕ, _-_, _≤_}
 use lib.Dec.{eqb, leb}
-use lib.ListN.{length, take, drop}
+use lib.ListN.{length}
 use Rattle.model.specs.System.{System, sign}
 use Rattle.model.specs.Query.{query}
-use Rattle.model.specs.File.{fileLength, sections}
-use Rattle.model.specs.declared.layout.Model.{Model}
 use Rattle.trees.specs.Tree.{IsTree}
 use Rattle.fixpoint.specs.Levels.{leastAmong, greatestAmong}
 use Rattle.fixpoint.specs.Restricted.{restricted, restrictedQueries, rise, fall, sumOver}
@@ -18,20 +16,6 @@ use Rattle.fixpoint.specs.Sets.{sets}
 use Rattle.routes.specs.declared.step.Found.{Found}
 use Rattle.routes.specs.declared.plain_route.Outcome.{Outcome}
 use Rattle.routes.specs.declared.plain_route.Outcome.the-variants.{Settled, Spent}
-
--- the counts are within the limits, and the file is long enough for them
-pub record Held (file : List ℕ) (m : Model) : Type 0 where
-  pub few-lines : m .lines ≤ 64
-  pub few-levels : m .levels ≤ 8
-  pub whole : fileLength (m .lines) (m .levels) ≤ length file
-
--- the system of a file
-abbrev pub systemIn : List ℕ → Model → System
-systemIn file m = sections (m .lines) (m .levels) file
-
--- the arguments of the levels above level k, innermost first
-abbrev pub above : Model → ℕ → List ℕ → List ℕ
-above m k xs = drop k (take (m .levels) xs)
 
 -- the numbers of least and of greatest levels among the first k
 abbrev pub leastOf : System → ℕ → ℕ

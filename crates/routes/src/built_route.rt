@@ -1,55 +1,76 @@
-// The route over built-in trees. No tree is stored: the children of S(p, h) are those of S(p/2, h), then S(p, h - 1),
-// then those of S((p - 1)/2, h).
+// The route over built-in trees. No tree is stored: a child of S(n, h + 1) is S(m, h), and m is found by its place among the children.
 ghost use mathlib.Core.Path.{_≡_};
 ghost use mathlib.Core.Bool.{true, false};
-ghost use Prim.Native.Nat.{_+_, _<_, _≤_};
-ghost use lib.ListN.{length};
+ghost use mathlib.Core.List.{List, []};
+ghost use Prim.Native.Nat.{ℕ, suc, _<_, _≤_};
+ghost use lib.ListN.{getD};
 ghost use Rattle.model.specs.System.{sign};
 ghost use Rattle.trees.specs.Built.{built, builtChildren};
-ghost use Rattle.routes.specs.Parts.{Held, LineCount, Gives, systemIn, above, leastOf, greatestOf, restrictedFrom, queriesFrom, riseFrom, riseQueries, fallFrom, fallQueries};
+ghost use Rattle.evaluator.specs.ByLevels.{Held, Decided, SomeDecide, systemIn};
+ghost use Rattle.routes.specs.Parts.{LineCount, Gives, leastOf, greatestOf, restrictedFrom, queriesFrom, riseFrom, riseQueries, fallFrom, fallQueries};
 use super::innermost::innermost_greatest;
 use super::innermost::innermost_least;
 use super::step::Found;
-use super::step::bounded_step;
 use super::step::is_greatest;
+use evaluator::Pending;
+use evaluator::decide;
 use model::Model;
+
+// The lines that child i of S(n, h + 1) is for, whatever h: those of S(n/2, h + 1) come first, then S(n, h), then those of S((n - 1)/2, h + 1).
+fn child_lines(n: usize, i: usize) -> usize
+    requires { ⌜ i < n ⌝ }
+    ensures few { λ r. ⌜ (1 ≤ r) × (r ≤ n) ⌝ }
+    ensures child { λ r. ⌜ ((h : ℕ) → getD (builtChildren n h) i [] ≡ built r h) ⌝ }
+{
+    let mut lines = n;
+    let mut at = i;
+    loop {
+        let first = lines / 2;
+        let second = (lines - 1) / 2;
+        if at == first {
+            return lines;
+        }
+        if at < first {
+            lines = first;
+        } else {
+            lines = second;
+            at = at - first - 1;
+        }
+    }
+}
 
 // A least level with `below` levels below it, over the children of S(p, h), h being the least levels up to this one.
 fn built_least(
     file: &[u8],
     m: Model,
     below: usize,
-    xs: &[u64; 8],
+    w: Pending,
     a: u64,
     b: u64,
     p: usize,
     q: usize,
 ) -> Found
-    requires { ⌜ Held (now file) m × (m .levels ≤ length (now xs)) ⌝ }
-    requires { ⌜ (below < m .levels) × (sign (systemIn (now file) m) below ≡ false) ⌝ }
-    requires { ⌜ (p ≤ 64) × LineCount q ⌝ }
+    requires { ⌜ Held (now file) m × SomeDecide (systemIn (now file) m) (suc below) a b w ⌝ }
+    requires { ⌜ (0 < below) × (below < m .levels) × (sign (systemIn (now file) m) below ≡ false) ⌝ }
+    requires { ⌜ LineCount p × LineCount q ⌝ }
     ensures { λ r. ⌜
         (let s = systemIn (now (file .entry)) m in
         let us = builtChildren p (leastOf s below) in
         let v = built q (greatestOf s below) in
-        Gives r (riseFrom s below (above m (below + 1) (now (xs .entry))) a b us v) (riseQueries s below us v)) ⌝ }
+        (ys : List ℕ) → Decided s (suc below) ys a b w → Gives r (riseFrom s below ys a b us v) (riseQueries s below us v)) ⌝ }
 {
-    if below == 0 {
-        return innermost_least(file, m, xs, a, b, p);
+    let mut low = a;
+    let mut count: u64 = 0;
+    let mut i = 0;
+    while i < p {
+        let n = child_lines(p, i);
+        let next = decide(file, m, below, low, low, b, w);
+        let child = built_level(file, m, below, next, low, b, n, q);
+        low = child.set;
+        count = count + child.count;
+        i += 1;
     }
-    if p == 0 {
-        return Found { set: a, count: 0 };
-    }
-    let first = built_least(file, m, below, xs, a, b, p / 2, q);
-    let c = first.set;
-    let mut ys = *xs;
-    ys[below] = c;
-    let middle = built_level(file, m, below, &ys, c, b, p, q);
-    let last = built_least(file, m, below, xs, middle.set, b, (p - 1) / 2, q);
-    Found {
-        set: last.set,
-        count: first.count + middle.count + last.count,
-    }
+    Found { set: low, count }
 }
 
 // A greatest level with `below` levels below it, over the children of S(q, h), h being the greatest levels up to this one.
@@ -57,37 +78,33 @@ fn built_greatest(
     file: &[u8],
     m: Model,
     below: usize,
-    xs: &[u64; 8],
+    w: Pending,
     a: u64,
     b: u64,
     p: usize,
     q: usize,
 ) -> Found
-    requires { ⌜ Held (now file) m × (m .levels ≤ length (now xs)) ⌝ }
-    requires { ⌜ (below < m .levels) × (sign (systemIn (now file) m) below ≡ true) ⌝ }
-    requires { ⌜ LineCount p × (q ≤ 64) ⌝ }
+    requires { ⌜ Held (now file) m × SomeDecide (systemIn (now file) m) (suc below) a b w ⌝ }
+    requires { ⌜ (0 < below) × (below < m .levels) × (sign (systemIn (now file) m) below ≡ true) ⌝ }
+    requires { ⌜ LineCount p × LineCount q ⌝ }
     ensures { λ r. ⌜
         (let s = systemIn (now (file .entry)) m in
         let u = built p (leastOf s below) in
         let vs = builtChildren q (greatestOf s below) in
-        Gives r (fallFrom s below (above m (below + 1) (now (xs .entry))) a b u vs) (fallQueries s below u vs)) ⌝ }
+        (ys : List ℕ) → Decided s (suc below) ys a b w → Gives r (fallFrom s below ys a b u vs) (fallQueries s below u vs)) ⌝ }
 {
-    if below == 0 {
-        return innermost_greatest(file, m, xs, a, b, q);
+    let mut high = b;
+    let mut count: u64 = 0;
+    let mut i = 0;
+    while i < q {
+        let n = child_lines(q, i);
+        let next = decide(file, m, below, high, a, high, w);
+        let child = built_level(file, m, below, next, a, high, p, n);
+        high = child.set;
+        count = count + child.count;
+        i += 1;
     }
-    if q == 0 {
-        return Found { set: b, count: 0 };
-    }
-    let first = built_greatest(file, m, below, xs, a, b, p, q / 2);
-    let c = first.set;
-    let mut ys = *xs;
-    ys[below] = c;
-    let middle = built_level(file, m, below, &ys, a, c, p, q);
-    let last = built_greatest(file, m, below, xs, a, middle.set, p, (q - 1) / 2);
-    Found {
-        set: last.set,
-        count: first.count + middle.count + last.count,
-    }
+    Found { set: high, count }
 }
 
 // The restricted set of the levels k, .., 1 over S(p, h) and S(q, g), h and g being the least and the greatest of these levels.
@@ -95,32 +112,31 @@ pub fn built_level(
     file: &[u8],
     m: Model,
     k: usize,
-    xs: &[u64; 8],
+    w: Pending,
     a: u64,
     b: u64,
     p: usize,
     q: usize,
 ) -> Found
-    requires { ⌜ Held (now file) m × (m .levels ≤ length (now xs)) ⌝ }
-    requires { ⌜ k ≤ m .levels ⌝ }
+    requires { ⌜ Held (now file) m × SomeDecide (systemIn (now file) m) k a b w ⌝ }
+    requires { ⌜ (0 < k) × (k ≤ m .levels) ⌝ }
     requires { ⌜ LineCount p × LineCount q ⌝ }
     ensures { λ r. ⌜
         (let s = systemIn (now (file .entry)) m in
         let u = built p (leastOf s k) in
         let v = built q (greatestOf s k) in
-        Gives r (restrictedFrom s k (above m k (now (xs .entry))) a b u v) (queriesFrom s k u v)) ⌝ }
+        (ys : List ℕ) → Decided s k ys a b w → Gives r (restrictedFrom s k ys a b u v) (queriesFrom s k u v)) ⌝ }
 {
-    // With no level left, one query; the levels themselves end in the innermost loop.
-    if k == 0 {
-        return Found {
-            set: bounded_step(file, m, a, b, xs),
-            count: 1,
-        };
-    }
     let below = k - 1;
     if is_greatest(file, m, below) {
-        built_greatest(file, m, below, xs, a, b, p, q)
+        if below == 0 {
+            innermost_greatest(file, m, w, a, b, q)
+        } else {
+            built_greatest(file, m, below, w, a, b, p, q)
+        }
+    } else if below == 0 {
+        innermost_least(file, m, w, a, b, p)
     } else {
-        built_least(file, m, below, xs, a, b, p, q)
+        built_least(file, m, below, w, a, b, p, q)
     }
 }

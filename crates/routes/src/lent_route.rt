@@ -1,16 +1,19 @@
 // The route over lent trees, whose gaps stand in two slices.
 ghost use mathlib.Core.Path.{_≡_};
 ghost use mathlib.Core.Bool.{true, false};
-ghost use Prim.Native.Nat.{ℕ, suc, _+_, _<_, _≤_};
+ghost use Prim.Native.Nat.{ℕ, suc, _<_, _≤_};
+ghost use mathlib.Core.List.{List};
 ghost use lib.ListN.{length, getD};
 ghost use Rattle.model.specs.System.{sign};
 ghost use Rattle.trees.specs.Tree.{children};
-ghost use Rattle.routes.specs.Parts.{Held, Lent, Gives, systemIn, above, leastOf, greatestOf, restrictedFrom, queriesFrom, riseFrom, riseQueries, fallFrom, fallQueries};
+ghost use Rattle.evaluator.specs.ByLevels.{Held, Decided, SomeDecide, systemIn};
+ghost use Rattle.routes.specs.Parts.{Lent, Gives, leastOf, greatestOf, restrictedFrom, queriesFrom, riseFrom, riseQueries, fallFrom, fallQueries};
 use super::innermost::innermost_greatest;
 use super::innermost::innermost_least;
 use super::step::Found;
-use super::step::bounded_step;
 use super::step::is_greatest;
+use evaluator::Pending;
+use evaluator::decide;
 use model::Model;
 
 // Where the first gap of h stands, or the length where there is none.
@@ -34,7 +37,7 @@ fn lent_least(
     file: &[u8],
     m: Model,
     below: usize,
-    xs: &[u64; 8],
+    w: Pending,
     a: u64,
     b: u64,
     hu: usize,
@@ -42,30 +45,30 @@ fn lent_least(
     hv: usize,
     v: &[u8],
 ) -> Found
-    requires { ⌜ Held (now file) m × (m .levels ≤ length (now xs)) ⌝ }
-    requires { ⌜ (below < m .levels) × (sign (systemIn (now file) m) below ≡ false) ⌝ }
+    requires { ⌜ Held (now file) m × SomeDecide (systemIn (now file) m) (suc below) a b w ⌝ }
+    requires { ⌜ (0 < below) × (below < m .levels) × (sign (systemIn (now file) m) below ≡ false) ⌝ }
     requires { ⌜ (hu ≡ suc (leastOf (systemIn (now file) m) below)) × Lent hu (now u) ⌝ }
     requires { ⌜ (hv ≡ greatestOf (systemIn (now file) m) below) × Lent hv (now v) ⌝ }
     ensures { λ r. ⌜
         (let s = systemIn (now (file .entry)) m in
         let us = children hu (now (u .entry)) in
-        Gives r (riseFrom s below (above m (below + 1) (now (xs .entry))) a b us (now (v .entry))) (riseQueries s below us (now (v .entry)))) ⌝ }
+        (ys : List ℕ) → Decided s (suc below) ys a b w → Gives r (riseFrom s below ys a b us (now (v .entry))) (riseQueries s below us (now (v .entry)))) ⌝ }
 {
-    if below == 0 {
-        return innermost_least(file, m, xs, a, b, u.len() + 1);
-    }
-    let cut = first_gap(u, hu);
-    let mut ys = *xs;
-    ys[below] = a;
-    let first = lent_level(file, m, below, &ys, a, b, hu - 1, &u[..cut], hv, v);
-    if cut == u.len() {
-        return first;
-    }
-    let next = cut + 1;
-    let rest = lent_least(file, m, below, xs, first.set, b, hu, &u[next..], hv, v);
-    Found {
-        set: rest.set,
-        count: first.count + rest.count,
+    let mut low = a;
+    let mut count: u64 = 0;
+    let mut from = 0;
+    loop {
+        // The gaps of the next child, up to the next gap of the root or to the end.
+        let rest = &u[from..];
+        let cut = first_gap(rest, hu);
+        let next = decide(file, m, below, low, low, b, w);
+        let child = lent_level(file, m, below, next, low, b, hu - 1, &rest[..cut], hv, v);
+        low = child.set;
+        count = count + child.count;
+        if cut == rest.len() {
+            return Found { set: low, count };
+        }
+        from = from + cut + 1;
     }
 }
 
@@ -74,7 +77,7 @@ fn lent_greatest(
     file: &[u8],
     m: Model,
     below: usize,
-    xs: &[u64; 8],
+    w: Pending,
     a: u64,
     b: u64,
     hu: usize,
@@ -82,30 +85,29 @@ fn lent_greatest(
     hv: usize,
     v: &[u8],
 ) -> Found
-    requires { ⌜ Held (now file) m × (m .levels ≤ length (now xs)) ⌝ }
-    requires { ⌜ (below < m .levels) × (sign (systemIn (now file) m) below ≡ true) ⌝ }
+    requires { ⌜ Held (now file) m × SomeDecide (systemIn (now file) m) (suc below) a b w ⌝ }
+    requires { ⌜ (0 < below) × (below < m .levels) × (sign (systemIn (now file) m) below ≡ true) ⌝ }
     requires { ⌜ (hu ≡ leastOf (systemIn (now file) m) below) × Lent hu (now u) ⌝ }
     requires { ⌜ (hv ≡ suc (greatestOf (systemIn (now file) m) below)) × Lent hv (now v) ⌝ }
     ensures { λ r. ⌜
         (let s = systemIn (now (file .entry)) m in
         let vs = children hv (now (v .entry)) in
-        Gives r (fallFrom s below (above m (below + 1) (now (xs .entry))) a b (now (u .entry)) vs) (fallQueries s below (now (u .entry)) vs)) ⌝ }
+        (ys : List ℕ) → Decided s (suc below) ys a b w → Gives r (fallFrom s below ys a b (now (u .entry)) vs) (fallQueries s below (now (u .entry)) vs)) ⌝ }
 {
-    if below == 0 {
-        return innermost_greatest(file, m, xs, a, b, v.len() + 1);
-    }
-    let cut = first_gap(v, hv);
-    let mut ys = *xs;
-    ys[below] = b;
-    let first = lent_level(file, m, below, &ys, a, b, hu, u, hv - 1, &v[..cut]);
-    if cut == v.len() {
-        return first;
-    }
-    let next = cut + 1;
-    let rest = lent_greatest(file, m, below, xs, a, first.set, hu, u, hv, &v[next..]);
-    Found {
-        set: rest.set,
-        count: first.count + rest.count,
+    let mut high = b;
+    let mut count: u64 = 0;
+    let mut from = 0;
+    loop {
+        let rest = &v[from..];
+        let cut = first_gap(rest, hv);
+        let next = decide(file, m, below, high, a, high, w);
+        let child = lent_level(file, m, below, next, a, high, hu, u, hv - 1, &rest[..cut]);
+        high = child.set;
+        count = count + child.count;
+        if cut == rest.len() {
+            return Found { set: high, count };
+        }
+        from = from + cut + 1;
     }
 }
 
@@ -114,7 +116,7 @@ pub fn lent_level(
     file: &[u8],
     m: Model,
     k: usize,
-    xs: &[u64; 8],
+    w: Pending,
     a: u64,
     b: u64,
     hu: usize,
@@ -122,25 +124,24 @@ pub fn lent_level(
     hv: usize,
     v: &[u8],
 ) -> Found
-    requires { ⌜ Held (now file) m × (m .levels ≤ length (now xs)) ⌝ }
-    requires { ⌜ k ≤ m .levels ⌝ }
+    requires { ⌜ Held (now file) m × SomeDecide (systemIn (now file) m) k a b w ⌝ }
+    requires { ⌜ (0 < k) × (k ≤ m .levels) ⌝ }
     requires { ⌜ (hu ≡ leastOf (systemIn (now file) m) k) × Lent hu (now u) ⌝ }
     requires { ⌜ (hv ≡ greatestOf (systemIn (now file) m) k) × Lent hv (now v) ⌝ }
     ensures { λ r. ⌜
         (let s = systemIn (now (file .entry)) m in
-        Gives r (restrictedFrom s k (above m k (now (xs .entry))) a b (now (u .entry)) (now (v .entry))) (queriesFrom s k (now (u .entry)) (now (v .entry)))) ⌝ }
+        (ys : List ℕ) → Decided s k ys a b w → Gives r (restrictedFrom s k ys a b (now (u .entry)) (now (v .entry))) (queriesFrom s k (now (u .entry)) (now (v .entry)))) ⌝ }
 {
-    // With no level left, one query; the levels themselves end in the innermost loop.
-    if k == 0 {
-        return Found {
-            set: bounded_step(file, m, a, b, xs),
-            count: 1,
-        };
-    }
     let below = k - 1;
     if is_greatest(file, m, below) {
-        lent_greatest(file, m, below, xs, a, b, hu, u, hv, v)
+        if below == 0 {
+            innermost_greatest(file, m, w, a, b, v.len() + 1)
+        } else {
+            lent_greatest(file, m, below, w, a, b, hu, u, hv, v)
+        }
+    } else if below == 0 {
+        innermost_least(file, m, w, a, b, u.len() + 1)
     } else {
-        lent_least(file, m, below, xs, a, b, hu, u, hv, v)
+        lent_least(file, m, below, w, a, b, hu, u, hv, v)
     }
 }

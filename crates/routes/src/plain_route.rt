@@ -1,10 +1,15 @@
 // The plain route: rounds of each level from its own start, under a ceiling on the queries.
 ghost use mathlib.Core.Path.{_≡_};
-ghost use Prim.Native.Nat.{ℕ, _<_, _≤_};
-ghost use lib.ListN.{length};
-ghost use Rattle.routes.specs.Parts.{Held, systemIn, above, plainFrom, under};
-use super::step::bounded_step;
+ghost use mathlib.Core.Bool.{cond};
+ghost use mathlib.Core.List.{List};
+ghost use Prim.Native.Nat.{ℕ, _<_, _≤_, _^_};
+ghost use Rattle.model.specs.System.{sign};
+ghost use Rattle.evaluator.specs.ByLevels.{Held, Decided, SomeDecide, systemIn};
+ghost use Rattle.routes.specs.Parts.{plainFrom, under};
 use super::step::is_greatest;
+use evaluator::Pending;
+use evaluator::decide;
+use evaluator::step_to;
 use model::Model;
 
 // How a run under a ceiling ends.
@@ -15,47 +20,61 @@ pub enum Outcome {
     Spent,
 }
 
-// One query of what is left of the ceiling.
-fn last_level(file: &[u8], m: Model, a: u64, b: u64, xs: &[u64; 8], left: u64) -> Outcome
-    requires { ⌜ Held (now file) m × (m .levels ≤ length (now xs)) ⌝ }
-    ensures { λ r. ⌜ ((rounds : ℕ) → r ≡ under left (plainFrom rounds (systemIn (now (file .entry)) m) a b 0 (above m 0 (now (xs .entry))))) ⌝ }
+// The value that level k + 1 starts from.
+fn start_of(file: &[u8], m: Model, k: usize, a: u64, b: u64) -> u64
+    requires { ⌜ Held (now file) m ⌝ }
+    requires { ⌜ k < m .levels ⌝ }
+    ensures { λ r. ⌜ r ≡ cond (sign (systemIn (now (file .entry)) m) k) b a ⌝ }
 {
-    if left == 0 {
-        return Outcome::Spent;
-    }
-    Outcome::Settled {
-        set: bounded_step(file, m, a, b, xs),
-        left: left - 1,
-    }
+    if is_greatest(file, m, k) { b } else { a }
 }
 
-// The plain rounds of the levels k, .., 1, at the arguments that xs has from place k on.
+// The rounds of the innermost level: each is one query, and takes one off what is left of the ceiling.
+fn innermost_rounds(file: &[u8], m: Model, a: u64, b: u64, w: Pending, left: u64) -> Outcome
+    requires { ⌜ Held (now file) m × (0 < m .levels) ⌝ }
+    requires { ⌜ w .undecided < 2 ^ m .lines ⌝ }
+    ensures { λ r. ⌜
+        (let s = systemIn (now (file .entry)) m in
+        (rounds : ℕ) → left < rounds → (ys : List ℕ) → Decided s 1 ys a b w → r ≡ under left (plainFrom rounds s a b 1 ys)) ⌝ }
+{
+    let mut x = start_of(file, m, 0, a, b);
+    let mut rest = left;
+    while rest != 0 {
+        let set = step_to(a, b, decide(file, m, 0, x, a, b, w));
+        rest -= 1;
+        if set == x {
+            return Outcome::Settled { set, left: rest };
+        }
+        x = set;
+    }
+    Outcome::Spent
+}
+
+// The plain rounds of the levels k, .., 1, at arguments of the levels above of which w is what they decide.
 pub fn plain_level(
     file: &[u8],
     m: Model,
     a: u64,
     b: u64,
     k: usize,
-    xs: &[u64; 8],
+    w: Pending,
     left: u64,
 ) -> Outcome
-    requires { ⌜ Held (now file) m × (m .levels ≤ length (now xs)) ⌝ }
-    requires { ⌜ k ≤ m .levels ⌝ }
-    ensures { λ r. ⌜ ((rounds : ℕ) → left < rounds → r ≡ under left (plainFrom rounds (systemIn (now (file .entry)) m) a b k (above m k (now (xs .entry))))) ⌝ }
+    requires { ⌜ Held (now file) m × SomeDecide (systemIn (now file) m) k a b w ⌝ }
+    requires { ⌜ (0 < k) × (k ≤ m .levels) ⌝ }
+    ensures { λ r. ⌜
+        (let s = systemIn (now (file .entry)) m in
+        (rounds : ℕ) → left < rounds → (ys : List ℕ) → Decided s k ys a b w → r ≡ under left (plainFrom rounds s a b k ys)) ⌝ }
 {
-    if k == 0 {
-        return last_level(file, m, a, b, xs, left);
-    }
     let below = k - 1;
-    let mut ys = *xs;
-    let mut x = a;
-    if is_greatest(file, m, below) {
-        x = b;
+    if below == 0 {
+        return innermost_rounds(file, m, a, b, w, left);
     }
+    let mut x = start_of(file, m, below, a, b);
     let mut rest = left;
     loop {
-        ys[below] = x;
-        let round = plain_level(file, m, a, b, below, &ys, rest);
+        let next = decide(file, m, below, x, a, b, w);
+        let round = plain_level(file, m, a, b, below, next, rest);
         let Outcome::Settled { set, left: unused } = round else {
             return Outcome::Spent;
         };

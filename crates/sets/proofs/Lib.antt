@@ -2,3 +2,4 @@ pub mod Order
 pub mod Range
 pub mod Members
 pub mod Extreme
+pub mod Membership

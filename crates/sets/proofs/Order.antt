@@ -27,7 +27,7 @@ digit-meet a b i = omega (arith, and-shr a b i, and-step (a / 2 ^ i) (b / 2 ^ i)
 pub digit-join : (a b i : ℕ) → digit (union a b) i ≡ max (digit a i) (digit b i)
 digit-join a b i = omega (arith, or-shr a b i, or-step (a / 2 ^ i) (b / 2 ^ i))
 
-digit-half : (a i : ℕ) → digit (a / 2) i ≡ digit a (suc i)
+pub digit-half : (a i : ℕ) → digit (a / 2) i ≡ digit a (suc i)
 digit-half a i = ap (λ (x : ℕ). x % 2) (shr-shr a 1 i) ∙ ap (λ (k : ℕ). digit a k) (one-add i)
 
 -- f bounds how many digits there are
@@ -94,7 +94,7 @@ step-low a b x h = join-left a (intersection b x)
 pub step-high : (a b x : ℕ) → a ⊑ b → boundedStep a b x ⊑ b
 step-high a b x h = join-lub a (intersection b x) b h (meet-left b x)
 
-digit-step : (a b x i : ℕ) → digit (boundedStep a b x) i ≡ max (digit a i) (min (digit b i) (digit x i))
+pub digit-step : (a b x i : ℕ) → digit (boundedStep a b x) i ≡ max (digit a i) (min (digit b i) (digit x i))
 digit-step a b x i = omega (arith, digit-join a (intersection b x) i, digit-meet b x i)
 
 pub step-mono : (a a′ b b′ x x′ : ℕ) → a ⊑ a′ → b ⊑ b′ → x ⊑ x′ → boundedStep a b x ⊑ boundedStep a′ b′ x′

@@ -1,12 +1,13 @@
 -- A set of the lines 0 to n - 1 is a word below 2 ^ n: those are the sets within `full n`, and the operations stay among them.
 -- Assumes nothing.
-use mathlib.Core.Bool.{false}
-use mathlib.Core.Path.{_≡_, _∙_, ap}
+use mathlib.Core.Bool.{Bool, true, false, true≢false}
+use mathlib.Core.Path.{_≡_, refl, sym, _∙_, ap}
 use Prim.Native.Nat.{ℕ, _%_, _^_, _≤_, _<_}
 use native.Mathlib.Nat.{mod-eq-of-lt, div-eq-of-lt, lt-of-le-of-lt, lt-of-lt-of-le}
 use lib.Pow.{pow-mono}
 use lib.Bits.{and-mask, mask-lt, and-le-l, or-lt}
-use lib.Dec.{eqb}
+use lib.Dec.{eqb, leb}
+use borrow.Author.Tests.{leb-true, leb-false}
 use Rattle.sets.specs.Set.{isMember, full, union, intersection, boundedStep}
 use Rattle.sets.proofs.Order.{_⊑_}
 
@@ -28,3 +29,10 @@ step-below n a b x ha hb = union-below n a (intersection b x) ha (intersection-b
 -- a set of n lines has no other member
 pub member-above : (n x i : ℕ) → x < 2 ^ n → n ≤ i → isMember x i ≡ false
 member-above n x i h l = ap (λ (q : ℕ). eqb (q % 2) 1) (div-eq-of-lt (lt-of-lt-of-le h (pow-mono l)))
+
+pub member-below : (n x i : ℕ) → x < 2 ^ n → isMember x i ≡ true → i < n
+member-below n x i h e = go (leb n i) refl
+  where
+    go : (t : Bool) → leb n i ≡ t → i < n
+    go true q = absurd (true≢false (sym e ∙ member-above n x i h (leb-true n i q)))
+    go false q = leb-false n i q

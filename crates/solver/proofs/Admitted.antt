@@ -24,7 +24,7 @@ use Rattle.model.specs.declared.layout.Reading.{Reading}
 use Rattle.model.specs.declared.layout.Reading.the-variants as reading
 use Rattle.model.proofs.Refusals.{AcceptedAs, RefusedAs, accepted-as, refused-as}
 use Rattle.model.proofs.Accepted.{accepted, decoded, limits, room}
-use Rattle.routes.specs.Parts.{Held, systemIn}
+use Rattle.evaluator.specs.ByLevels.{Held, systemIn}
 use Rattle.view.specs.View.{InUse}
 use Rattle.solver.specs.Checks.{misplaced, boundChecks, builtNumber}
 

@@ -5,7 +5,7 @@ ghost use Prim.Native.Nat.{_≤_};
 ghost use Rattle.answers.specs.Check.{unless};
 ghost use Rattle.model.specs.File.{linesIn, levelsIn};
 ghost use Rattle.model.specs.Says.{readingAnswer, sized};
-ghost use Rattle.routes.specs.Parts.{Held, systemIn};
+ghost use Rattle.evaluator.specs.ByLevels.{Held, systemIn};
 ghost use Rattle.routes.specs.Routes.{leastLevels};
 ghost use Rattle.solver.specs.Checks.{misplaced, badTree, builtNumber};
 ghost use Rattle.solver.specs.Says.{queriedAnswer, queryAnswer, handedOn, PlainSays, BuiltSays, LentSays};

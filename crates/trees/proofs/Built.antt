@@ -3,13 +3,14 @@
 -- Assumes nothing.
 use mathlib.Core.List.{List, [], _∷_, _++_}
 use mathlib.Core.Path.{_≡_, refl, sym, _∙_, ap}
-use Prim.Native.Nat.{ℕ, zero, suc, _+_, _/_, _≤_}
+use Prim.Native.Nat.{ℕ, zero, suc, _+_, _-_, _/_, _≤_, _<_}
 use native.Mathlib.Nat.{le-refl}
 use native.Mathlib.Omega.{arith}
-use lib.ListN.{replicate, replicate-append-replicate}
+use lib.ListN.{length, getD, length-append, List·getD-append, replicate, replicate-append-replicate}
+use lib.Seq.{getD-at, getD-append-add}
 use Rattle.trees.specs.Tree.{children, grow, leaves, IsTree, leaf}
 use Rattle.trees.specs.Built.{halvedChildren, built, builtChildren, leafCount}
-use Rattle.trees.proofs.Children.{Trees, none, more, trees-append, total, total-append, Some, append-some, of-some, children-grow, grow-leaves, grow-tree}
+use Rattle.trees.proofs.Children.{Trees, none, more, trees-append, total, total-append, one-of-total, Some, append-some, of-some, children-grow, grow-leaves, grow-tree}
 
 module _ (below : ℕ → List ℕ) where
   no-children : (m : ℕ) → halvedChildren m below zero ≡ []
@@ -50,6 +51,38 @@ unfolding halvedChildren
 built-children-step n h =
     cc (enough (λ m. built m h) n (suc n / 2) (omega arith), enough (λ m. built m h) n (n / 2) (omega arith))
 
+pub built-children-halves : (n h : ℕ) → 0 < n → builtChildren n h ≡ builtChildren (n / 2) h ++ built n h ∷ builtChildren ((n - 1) / 2) h
+built-children-halves zero h l = absurd (omega arith)
+built-children-halves (suc n) h l =
+    let e : suc n - 1 ≡ n = omega arith in
+    rw e (built-children-step n h)
+
+-- S(n, h) has n children
+pub built-children-length : (n h : ℕ) → length (builtChildren n h) ≡ n
+built-children-length n h = up-to n n (le-refl n)
+  where
+    up-to : (m n : ℕ) → n ≤ m → length (builtChildren n h) ≡ n
+    up-to zero zero p = rw (built-children-zero h)
+    up-to zero (suc n) p = absurd (omega arith)
+    up-to (suc m) zero p = rw (built-children-zero h)
+    up-to (suc m) (suc n) p =
+        rw (built-children-step n h, length-append) (omega (arith, up-to m (suc n / 2) (omega arith), up-to m (n / 2) (omega arith)))
+
+-- the child at a place: among those of the first half, between the halves, or among those of the second
+module _ (n h i : ℕ) (some : 0 < n) where
+  pub child-first : i < n / 2 → getD (builtChildren n h) i [] ≡ getD (builtChildren (n / 2) h) i []
+  child-first l = rw (built-children-halves n h some) (List·getD-append (builtChildren (n / 2) h) _ [] i (rw built-children-length l))
+
+  pub child-middle : i ≡ n / 2 → getD (builtChildren n h) i [] ≡ built n h
+  child-middle e = rw (built-children-halves n h some) (getD-at (builtChildren (n / 2) h) _ _ [] i (built-children-length (n / 2) h ∙ sym e))
+
+  pub child-last : n / 2 < i → getD (builtChildren n h) i [] ≡ getD (builtChildren ((n - 1) / 2) h) (i - n / 2 - 1) []
+  child-last l =
+      let place : i ≡ length (builtChildren (n / 2) h) + suc (i - n / 2 - 1) = omega (arith, built-children-length (n / 2) h) in
+      rw (built-children-halves n h some)
+      (ap (λ (j : ℕ). getD (builtChildren (n / 2) h ++ built n h ∷ builtChildren ((n - 1) / 2) h) j []) place
+      ∙ getD-append-add (builtChildren (n / 2) h) (built n h ∷ builtChildren ((n - 1) / 2) h) (suc (i - n / 2 - 1)) [])
+
 -- the children of S(n, 1) are n leaves
 pub built-children-leaves : (n : ℕ) → builtChildren n 0 ≡ replicate n []
 unfolding halvedChildren built
@@ -86,6 +119,13 @@ pub total-built-children : (n h : ℕ) → total (builtChildren n h) ≡ leafCou
 unfolding built leafCount total halvedChildren
 total-built-children zero h = refl
 total-built-children (suc n) h = sym (of-some (λ ts. leaves (grow (suc h) ts) ≡ total ts) (grow-leaves (suc h)) (built-children-some n h))
+
+-- a child has no more leaves than its tree
+pub child-leaves : (n h i : ℕ) → i < n → leaves (getD (builtChildren n h) i []) ≤ leaves (built n (suc h))
+unfolding leafCount
+child-leaves zero h i l = absurd (omega arith)
+child-leaves (suc n) h i l =
+    omega (arith, total-built-children (suc n) h, one-of-total (builtChildren (suc n) h) i (rw built-children-length l))
 
 -- the leaf counts, by the same halves
 

@@ -4,12 +4,13 @@
 use mathlib.Core.Bool.{Bool, true, false}
 use mathlib.Core.List.{List, [], _∷_, _++_}
 use mathlib.Core.Path.{_≡_, refl, _∙_, ap}
-use Prim.Native.Nat.{ℕ, suc, _+_, _≤_}
+use Prim.Native.Nat.{ℕ, suc, _+_, _≤_, _<_}
 use native.Mathlib.Nat.{suc-add}
 use native.Mathlib.Omega.{arith}
 use borrow.Author.Tests.{ne-eqb, eq-eqb, eqb-true, eqb-false}
 use lib.Dec.{eqb}
-use lib.ListN.{length, replicate, length-append}
+use lib.ListN.{length, getD, take, drop, replicate, length-append}
+use lib.Seq.{split-at}
 use Rattle.trees.specs.Tree.{children, grow, leaves, IsTree, leaf, gap}
 
 -- all of them are trees of height h
@@ -55,6 +56,11 @@ pub total-append : (ts us : List (List ℕ)) → total (ts ++ us) ≡ total ts +
 unfolding total
 total-append [] us = omega arith
 total-append (t ∷ ts) us = omega (arith, total-append ts us)
+
+pub one-of-total : (ts : List (List ℕ)) (i : ℕ) → i < length ts → leaves (getD ts i []) ≤ total ts
+unfolding total
+one-of-total ts i l =
+    omega (arith, ap total (split-at ts i [] l), total-append (take i ts) (getD ts i [] ∷ drop (suc i) ts))
 
 pub append-some : (ts : List (List ℕ)) (u : List ℕ) (us : List (List ℕ)) → Some (ts ++ u ∷ us)
 append-some [] u us = record { first = u; rest = us; are = refl }

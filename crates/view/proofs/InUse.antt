@@ -2,14 +2,15 @@
 -- Assumes nothing.
 use mathlib.Core.List.{List}
 use mathlib.Core.Path.{_≡_, refl, sym, _∙_, ap, ap₂}
-use Prim.Native.Nat.{ℕ}
+use Prim.Native.Nat.{ℕ, _<_}
 use native.Mathlib.Omega.{arith}
 use denote.Ref.{RefT, now}
 use Rattle.model.specs.File.{linesIn, levelsIn, decode}
 use Rattle.model.specs.declared.layout.Model.{Model}
 use Rattle.model.specs.declared.layout.Reading.the-variants as reading
 use Rattle.model.proofs.Accepted.{checked}
-use Rattle.routes.specs.Parts.{Held, LineCount, systemIn}
+use Rattle.evaluator.specs.ByLevels.{Held, systemIn}
+use Rattle.routes.specs.Parts.{LineCount}
 use Rattle.view.specs.View.{InUse}
 use Rattle.view.specs.declared.View.{View}
 
@@ -20,6 +21,7 @@ countsOf n d = record { lines = n; levels = d }
 pub record Used (file : List ℕ) (n d : ℕ) : Type 0 where
   pub held : Held file (countsOf n d)
   pub line-count : LineCount n
+  pub some-levels : 0 < d
   pub system : systemIn file (countsOf n d) ≡ decode file
   pub lines-are : n ≡ linesIn file
   pub levels-are : d ≡ levelsIn file
@@ -30,6 +32,7 @@ used file n d h =
     record {
       held = record { few-lines = c .limits .0; few-levels = c .limits .1; whole = c .room };
       line-count = (omega (arith, c .counts .lines, c .accepted .header .lines-least), c .limits .0);
+      some-levels = omega (arith, c .counts .levels, c .accepted .header .levels-least);
       system = c .system;
       lines-are = c .counts .lines;
       levels-are = c .counts .levels;

@@ -1,7 +1,7 @@
 -- From what an evaluator gives for a model in use, a query or all levels, to what the whole route gives for the file's system: no level stands above them,
 -- and more rounds change nothing.
 -- Assumes nothing.
-use mathlib.Core.List.{List, [], _∷_}
+use mathlib.Core.List.{List, []}
 use mathlib.Core.Path.{_≡_, _∙_, ap, ap₂, subst}
 use Prim.Native.Nat.{ℕ, suc, _+_, _<_}
 use native.Mathlib.Omega.{arith}
@@ -13,53 +13,38 @@ use Rattle.model.specs.File.{decode}
 use Rattle.model.specs.Query.{query}
 use Rattle.model.specs.System.{System}
 use Rattle.model.specs.declared.layout.Model.{Model}
-use Rattle.routes.specs.Parts.{systemIn, above, plainFrom, under, restrictedFrom, queriesFrom, Gives}
+use Rattle.evaluator.specs.ByLevels.{systemIn}
+use Rattle.routes.specs.Parts.{plainFrom, under, restrictedFrom, queriesFrom, Gives}
 use Rattle.routes.specs.Routes.{builtLeast, builtGreatest}
 use Rattle.routes.specs.declared.step.Found.{Found}
 use Rattle.routes.specs.declared.plain_route.Outcome.{Outcome}
-use Rattle.routes.proofs.Places.{above-none}
 use Rattle.routes.proofs.Promises.{plain-rounds}
 use Rattle.view.specs.View.{InUse, PlainIs, BuiltIs, LentIs}
 use Rattle.view.proofs.InUse.{countsOf, used}
 
--- the arguments that the evaluators begin with
-abbrev pub zeros : List ℕ
-zeros = 0 ∷ 0 ∷ 0 ∷ 0 ∷ 0 ∷ 0 ∷ 0 ∷ 0 ∷ []
-
-module _ (file : List ℕ) (n d : ℕ) (h : InUse file n d) (xs : List ℕ) where
+module _ (file : List ℕ) (n d : ℕ) (h : InUse file n d) where
   abbrev m : Model
   m = countsOf n d
 
-  pub query-whole : (r : ℕ) → length xs ≡ d → r ≡ query (systemIn file m) (take d xs) → r ≡ query (decode file) xs
-  query-whole r l e = e ∙ ap₂ query (used file n d h .system) (take-all d xs (omega arith))
+  pub query-whole : (xs : List ℕ) (r : ℕ) → length xs ≡ d → r ≡ query (systemIn file m) (take d xs) → r ≡ query (decode file) xs
+  query-whole xs r l e = e ∙ ap₂ query (used file n d h .system) (take-all d xs (omega arith))
 
   module _ (a b : ℕ) where
     pub plain-whole : (ceiling : ℕ) (r : Outcome) → Range (sets n) a b
-        → ((rounds : ℕ) → ceiling < rounds → r ≡ under ceiling (plainFrom rounds (systemIn file m) a b d (above m d xs)))
+        → ((rounds : ℕ) → ceiling < rounds → r ≡ under ceiling (plainFrom rounds (systemIn file m) a b d []))
         → PlainIs (decode file) a b ceiling r
     plain-whole ceiling r range e =
         let rounds : ℕ = suc (ceiling + n) in
         subst (λ (s : System). PlainIs s a b ceiling r) (used file n d h .system) (e rounds (omega arith)
-        ∙ ap (λ (ys : List ℕ). under ceiling (plainFrom rounds (systemIn file m) a b d ys)) (above-none m xs)
         ∙ ap (under ceiling) (plain-rounds (systemIn file m) a b range rounds (omega arith)))
 
-    restricted-whole : (u v : List ℕ) (r : Found)
-        → Gives r (restrictedFrom (systemIn file m) d (above m d xs) a b u v) (queriesFrom (systemIn file m) d u v)
-        → LentIs (systemIn file m) a b u v r
-    restricted-whole u v r g = record {
-      value = g .value ∙ ap (λ (ys : List ℕ). restrictedFrom (systemIn file m) d ys a b u v) (above-none m xs);
-      queries = g .queries;
-    }
-
     pub lent-whole : (u v : List ℕ) (r : Found)
-        → Gives r (restrictedFrom (systemIn file m) d (above m d xs) a b u v) (queriesFrom (systemIn file m) d u v)
+        → Gives r (restrictedFrom (systemIn file m) d [] a b u v) (queriesFrom (systemIn file m) d u v)
         → LentIs (decode file) a b u v r
-    lent-whole u v r g = subst (λ (s : System). LentIs s a b u v r) (used file n d h .system) (restricted-whole u v r g)
+    lent-whole u v r g = subst (λ (s : System). LentIs s a b u v r) (used file n d h .system) g
 
     pub built-whole : (r : Found)
         → (let s = systemIn file m in
-        Gives r (restrictedFrom s d (above m d xs) a b (builtLeast s n) (builtGreatest s n)) (queriesFrom s d (builtLeast s n) (builtGreatest s n)))
+        Gives r (restrictedFrom s d [] a b (builtLeast s n) (builtGreatest s n)) (queriesFrom s d (builtLeast s n) (builtGreatest s n)))
         → BuiltIs (decode file) a b r
-    built-whole r g =
-        let s = systemIn file m in
-        subst (λ (s : System). BuiltIs s a b r) (used file n d h .system) (restricted-whole (builtLeast s n) (builtGreatest s n) r g)
+    built-whole r g = subst (λ (s : System). BuiltIs s a b r) (used file n d h .system) g

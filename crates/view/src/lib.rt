@@ -22,7 +22,7 @@ fn query_at(file: &[u8], lines: usize, levels: usize, xs: &[u64]) -> u64
     requires { ⌜ InUse (now file) lines levels × (length (now xs) ≡ levels) ⌝ }
     ensures { λ r. ⌜ r ≡ querySet (decode (now (file .entry))) (now (xs .entry)) ⌝ }
 {
-    model::evaluate(file, Model { lines, levels }, xs)
+    evaluator::evaluate(file, Model { lines, levels }, xs)
 }
 
 // The work: the plain rounds, with at most `ceiling` queries.
@@ -31,8 +31,8 @@ fn plain_at(file: &[u8], lines: usize, levels: usize, a: u64, b: u64, ceiling: u
     ensures { λ r. ⌜ PlainIs (decode (now (file .entry))) a b ceiling r ⌝ }
 {
     let m = Model { lines, levels };
-    let xs = [0u64; 8];
-    routes::plain_level(file, m, a, b, levels, &xs, ceiling)
+    let w = evaluator::begin(file, m);
+    routes::plain_level(file, m, a, b, levels, w, ceiling)
 }
 
 // The work: the restricted set over the built-in trees for the file's lines.
@@ -41,8 +41,8 @@ fn built_at(file: &[u8], lines: usize, levels: usize, a: u64, b: u64) -> Found
     ensures { λ r. ⌜ BuiltIs (decode (now (file .entry))) a b r ⌝ }
 {
     let m = Model { lines, levels };
-    let xs = [0u64; 8];
-    routes::built_level(file, m, levels, &xs, a, b, lines, lines)
+    let w = evaluator::begin(file, m);
+    routes::built_level(file, m, levels, w, a, b, lines, lines)
 }
 
 // The work: the restricted set over two lent trees, given by their heights and gaps.
@@ -61,8 +61,8 @@ fn lent_at(
     ensures { λ r. ⌜ LentIs (decode (now (file .entry))) a b (now (u .entry)) (now (v .entry)) r ⌝ }
 {
     let m = Model { lines, levels };
-    let xs = [0u64; 8];
-    routes::lent_level(file, m, levels, &xs, a, b, hu, u, hv, v)
+    let w = evaluator::begin(file, m);
+    routes::lent_level(file, m, levels, w, a, b, hu, u, hv, v)
 }
 
 // A view of a file, made with the counts that checking gave.

@@ -10,7 +10,8 @@ use denote.Ref.{now}
 use Rattle.fixpoint.specs.Levels.{leastAmong}
 use Rattle.fixpoint.proofs.Levels.{least-at-least, least-at-greatest}
 use Rattle.model.specs.System.{sign}
-use Rattle.routes.specs.Parts.{systemIn, leastOf}
+use Rattle.evaluator.specs.ByLevels.{systemIn}
+use Rattle.routes.specs.Parts.{leastOf}
 use borrow.Author.Needs.{needs}
 use Rattle.solver.proofs.count_least.Statement.{statement}
 use Rattle.solver.proofs.count_least.Tie as tie

@@ -12,7 +12,7 @@ evaluate-requires c κs =
     let start = c .before .before in
     let args = start .args in
     let held = used (now (args .file)) (args .lines) (args .levels) (start .pre .0) .held in
-    ((omega arith, omega arith), (held .whole, omega (arith, start .pre .1)))
+    (held, omega (arith, start .pre .1))
 
 returns : tie.Need-returns
 returns c =

@@ -1,0 +1,79 @@
+-- Lines gone over from the lowest member on: what has been found so far, with one line more.
+-- Assumes nothing.
+use mathlib.Core.Bool.{Bool, true, false, not, _&&_, _||_}
+use mathlib.Core.Path.{_≡_, refl, sym, _∙_, ap}
+use Prim.Native.Nat.{ℕ, _-_, _^_, _≤_}
+use native.Mathlib.Omega.{arith}
+use native.Mathlib.Nat.{le-trans}
+use borrow.Author.Tests.{eqb-true, eqb-false, eq-eqb}
+use lib.Bits.{and-le-l}
+use lib.Dec.{eqb}
+use Rattle.sets.specs.Set.{isMember, union, intersection}
+use Rattle.sets.proofs.Order.{digit}
+use Rattle.sets.proofs.Membership.{Lowest, member-join, member-power, member-empty}
+
+-- of some lines those found so far, the lines in `rest` being left
+module _ (p : ℕ → Bool) (lines : ℕ) where
+  pub record Found (rest found : ℕ) : Type 0 where
+    pub left : (i : ℕ) → isMember rest i ≡ true → isMember lines i ≡ true
+    pub few : rest ≤ lines
+    pub is : (i : ℕ) → isMember found i ≡ (isMember lines i && (not (isMember rest i) && p i))
+
+  pub found-none : Found lines 0
+  found-none = record { left = λ i e. e; few = omega arith; is = λ i. member-empty i ∙ none (isMember lines i) (p i) }
+    where
+      none : (s t : Bool) → false ≡ (s && (not s && t))
+      none true t = refl
+      none false t = refl
+
+  pub found-all : (found : ℕ) → Found 0 found → (i : ℕ) → isMember found i ≡ (isMember lines i && p i)
+  found-all found f i = f .is i ∙ rw (member-empty i)
+
+  module _ {rest found t : ℕ} (l : Lowest 64 rest t) (f : Found rest found) where
+    abbrev next : ℕ
+    next = intersection rest (rest - 1)
+
+    -- a line that is found, or not, is left out of the rest
+    one-more : (found′ : ℕ) → isMember found′ t ≡ p t → ((i : ℕ) → (i ≡ t → ⊥) → isMember found′ i ≡ isMember found i) → Found next found′
+    one-more found′ e same = record {
+      left = λ i h. in-lines i (eqb i t) refl h;
+      few = le-trans (and-le-l rest (rest - 1)) (f .few);
+      is = λ i. at i (eqb i t) refl;
+    }
+      where
+        gone : isMember next t ≡ false
+        gone = ap (λ (d : ℕ). eqb d 1) (l .taken)
+
+        kept : (i : ℕ) → (i ≡ t → ⊥) → isMember next i ≡ isMember rest i
+        kept i ne = ap (λ (d : ℕ). eqb d 1) (l .kept i ne)
+
+        was-in : isMember lines t ≡ true
+        was-in = f .left t (eq-eqb (digit rest t) 1 (l .is-in))
+
+        in-lines : (i : ℕ) (s : Bool) → eqb i t ≡ s → isMember next i ≡ true → isMember lines i ≡ true
+        in-lines i true q h = rw (eqb-true i t q) was-in
+        in-lines i false q h = f .left i (sym (kept i (eqb-false i t q)) ∙ h)
+
+        at : (i : ℕ) (s : Bool) → eqb i t ≡ s → isMember found′ i ≡ (isMember lines i && (not (isMember next i) && p i))
+        at i true q = rw (eqb-true i t q, gone, was-in) e
+        at i false q = let ne = eqb-false i t q in same i ne ∙ rw (kept i ne) (f .is i)
+
+    unfound : isMember found t ≡ false
+    unfound = f .is t ∙ rw (eq-eqb (digit rest t) 1 (l .is-in)) (never (isMember lines t))
+      where
+        never : (s : Bool) → (s && false) ≡ false
+        never true = refl
+        never false = refl
+
+    pub found-more : p t ≡ true → Found next (union found (2 ^ t))
+    found-more e = one-more (union found (2 ^ t))
+        (member-join found (2 ^ t) t ∙ rw (unfound, member-power t t, eq-eqb t t refl) (sym e))
+        (λ i ne. member-join found (2 ^ t) i ∙ rw (member-power t i) (other i (eqb i t) refl ne (isMember found i)))
+      where
+        other : (i : ℕ) (s : Bool) → eqb i t ≡ s → (i ≡ t → ⊥) → (r : Bool) → (r || eqb i t) ≡ r
+        other i true q ne r = absurd (ne (eqb-true i t q))
+        other i false q ne true = refl
+        other i false q ne false = q
+
+    pub found-same : p t ≡ false → Found next found
+    found-same e = one-more found (unfound ∙ sym e) (λ i ne. refl)

@@ -1,0 +1,7 @@
+pub mod Places
+pub mod Masks
+pub mod LineSets
+pub mod FoundLines
+pub mod Needs
+pub mod OuterLevels
+pub mod DecidedLines

@@ -1,0 +1,27 @@
+-- Where a line's kind and its word for a level stand in the file.
+-- Assumes nothing.
+use mathlib.Core.List.{List}
+use mathlib.Core.Path.{_≡_, sym, _∙_, ap}
+use Prim.Native.Nat.{ℕ, _+_, _*_, _<_}
+use native.Mathlib.Nat.{mul-comm, mul-assoc}
+use native.Mathlib.Omega.{arith}
+use lib.ListN.{length, getD, drop}
+use lib.Seq.{drop-drop, getD-take, getD-drop}
+use Rattle.model.specs.Query.{wordsOf}
+use Rattle.model.specs.File.{numberAt, kindsAt, wordsAt, sections}
+use Rattle.model.proofs.Codec.{words-length}
+use Rattle.model.proofs.Lines.{word-at, words-of}
+
+pub line-kind : (n d : ℕ) (file : List ℕ) (i : ℕ) → i < n → getD (sections n d file .kinds) i 0 ≡ getD file (kindsAt d + i) 0
+line-kind n d file i h = getD-take n (drop (kindsAt d) file) i 0 h ∙ getD-drop (kindsAt d) file i 0
+
+-- every line has a word for each level
+pub word-room : (n d : ℕ) (file : List ℕ) (k : ℕ) → k < d → (i : ℕ) → i < n → k < length (wordsOf (sections n d file) i)
+word-room n d file k h i l = rw (words-of n d file i l, words-length) h
+
+-- the word of line i for level k + 1
+pub word-place : (n d : ℕ) (file : List ℕ) (i k at line : ℕ) → i < n → k < d → at ≡ wordsAt n d + 8 * k → line ≡ 8 * d
+    → numberAt file (at + line * i) 8 ≡ getD (wordsOf (sections n d file) i) k 0
+word-place n d file i k at line h l ea el =
+    let place : wordsAt n d + 8 * (i * d) + 8 * k ≡ at + line * i = omega (arith, ap (λ (z : ℕ). z * i) el, mul-assoc 8 d i, mul-comm i d) in
+    sym (rw (words-of n d file i h) (word-at d (drop (wordsAt n d + 8 * (i * d)) file) k l ∙ rw (drop-drop (8 * k) (wordsAt n d + 8 * (i * d)) file, place)))

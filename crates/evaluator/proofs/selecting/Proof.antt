@@ -1,0 +1,169 @@
+-- `evaluator::selecting` selects its contract. The loop's invariant: those of the lines passed are found that select a line of x.
+-- The measure is the set of the lines left.
+-- Assumes nothing.
+use denote.Ref.{now}
+use mathlib.Core.Bool.{Bool, true, false, not, _&&_}
+use mathlib.Core.List.{List}
+use mathlib.Core.Path.{_≡_, refl, sym, _∙_, ap}
+use mathlib.Core.Logic.{⊎-elim}
+use Prim.Native.Nat.{ℕ, _+_, _-_, _*_, _^_, _≤_, _<_}
+use native.Mathlib.Omega.{arith}
+use native.Mathlib.Nat.{mul-comm, mul-assoc, lt-of-le-of-lt, lt-of-lt-of-le}
+use borrow.Author.Needs.{needs}
+use borrow.Author.Tests.{eq-eqb, ne-eqb}
+use lib.Bits.{and-le-r}
+use lib.Count.{trailingZeros}
+use lib.Dec.{eqb}
+use lib.ListN.{length}
+use lib.Pow.{pow-mono}
+use Rattle.sets.specs.Set.{isMember, intersection}
+use Rattle.sets.proofs.Order.{digit}
+use Rattle.sets.proofs.Range.{member-below}
+use Rattle.sets.proofs.Membership.{Lowest, lowest}
+use Rattle.model.specs.Query.{any, selected}
+use Rattle.evaluator.specs.ByLevels.{selects}
+use Rattle.model.specs.File.{numberAt, wordsAt, sections}
+use Rattle.evaluator.proofs.FoundLines.{Found, found-none, found-all, found-more, found-same}
+use Rattle.evaluator.proofs.Places.{word-place}
+use Rattle.evaluator.proofs.LineSets.{one-shifted}
+use Rattle.evaluator.proofs.Masks.{any-selected}
+use Rattle.model.proofs.Sizes.{line-fits}
+use Rattle.evaluator.proofs.selecting.Statement.{statement}
+use Rattle.evaluator.proofs.selecting.Tie as tie
+
+-- whether the word of line i has a line of x
+abbrev has : List ℕ → ℕ → ℕ → ℕ → ℕ → Bool
+has file at line x i = any (selected 64 (numberAt file (at + line * i) 8) x)
+
+same-line : (n d : ℕ) (file : List ℕ) (k lines x at line : ℕ) → lines < 2 ^ n → k < d → at ≡ wordsAt n d + 8 * k → line ≡ 8 * d → (i : ℕ)
+    → (isMember lines i && has file at line x i) ≡ (isMember lines i && selects (sections n d file) k x i)
+same-line n d file k lines x at line h l ea el i = go (isMember lines i) refl
+  where
+    go : (t : Bool) → isMember lines i ≡ t → (isMember lines i && has file at line x i) ≡ (isMember lines i && selects (sections n d file) k x i)
+    go true e = rw (e, word-place n d file i k at line (member-below n lines i h e) l ea el)
+    go false e = rw e
+
+abbrev Inv-loop : tie.InvT-loop
+Inv-loop file k lines x at line rest₀ found₀ rest found = Found (has file at line x) lines rest found
+
+abbrev μ-loop : tie.MeasureT-loop
+μ-loop file k lines x at line rest₀ found₀ rest found = rest
+
+words-at-requires : tie.Need-words-at-requires Inv-loop μ-loop
+words-at-requires c κs = search needs
+
+mul-at : tie.Need-mul-at Inv-loop μ-loop
+mul-at c = search needs
+
+add-at : tie.Need-add-at Inv-loop μ-loop
+add-at c = search needs
+
+mul-line : tie.Need-mul-line Inv-loop μ-loop
+mul-line c = search needs
+
+loop-holds : tie.Need-loop-holds Inv-loop μ-loop
+loop-holds c = found-none _ _
+
+-- the line that is looked at, in the loop: the lowest of the rest, and the eight bytes of its word
+record Looked (n d k words file at line rest t : ℕ) : Type 0 where
+  low : Lowest 64 rest t
+  short : t < 64
+  one : t < n
+  start : line * t ≡ 8 * (t * d)
+  room : at + line * t + 8 ≤ file
+
+looked : (c : tie.In-loop Inv-loop μ-loop) →
+    let z = c .before .before .before .before .before .args in
+    Looked (z .m .lines) (z .m .levels) (z .k) (c .before .before .before .words-at .result) (length (now (z .file)))
+    (c .before .before .before .words-at .result + 8 * z .k) (8 * z .m .levels) (c .before .loop .rest) (trailingZeros 64 (c .before .loop .rest))
+looked c =
+    let start = c .before .before .before .before .before in
+    let z = start .args in
+    let rest = c .before .loop .rest in
+    let few : rest ≤ z .lines = c .before .loop .inv .few in
+    let below : rest < 2 ^ z .m .lines = lt-of-le-of-lt few (start .pre .1 .1) in
+    let t = trailingZeros 64 rest in
+    let l : Lowest 64 rest t = lowest 64 rest (lt-of-lt-of-le below (pow-mono (start .pre .0 .few-lines))) (c .loop-test .taken) in
+    let one : t < z .m .lines = member-below (z .m .lines) rest t below (eq-eqb (digit rest t) 1 (l .is-in)) in
+    let begin : 8 * z .m .levels * t ≡ 8 * (t * z .m .levels) = mul-assoc 8 (z .m .levels) t ∙ ap (λ (y : ℕ). 8 * y) (mul-comm (z .m .levels) t) in
+    record {
+      low = l;
+      short = l .low;
+      one = one;
+      start = begin;
+      room = omega (arith, start .pre, c .before .before .before .words-at .ensures, line-fits (z .m .levels) one);
+    }
+
+cast-i : tie.Need-cast-i Inv-loop μ-loop
+cast-i c = omega (arith, looked c .short)
+
+mul-u64-at : tie.Need-mul-u64-at Inv-loop μ-loop
+mul-u64-at c = omega (arith, looked c .room, c .before .before .before .before .before .good)
+
+add-u64-at : tie.Need-add-u64-at Inv-loop μ-loop
+add-u64-at c = omega (arith, looked c .room, c .before .before .before .before .before .good)
+
+u64-at-requires : tie.Need-u64-at-requires Inv-loop μ-loop
+u64-at-requires c κs = looked c .room
+
+shl-found : tie.Need-shl-found Inv-loop μ-loop
+shl-found c = looked (c .before .before) .short
+
+sub-rest : tie.Need-sub-rest Inv-loop μ-loop
+sub-rest c = search needs
+
+loop-less : tie.Need-loop-less Inv-loop μ-loop
+loop-less c =
+    let rest = c .before .before .before .loop .rest in
+    let ne : rest ≡ 0 → ⊥ = c .before .before .loop-test .taken in
+    omega (arith, and-le-r rest (rest - 1))
+
+-- what the test finds is whether the line has such an operand
+tested : (c : tie.After-u64-at Inv-loop μ-loop) →
+    let z = c .before .before .before .before .before .before .args in
+    has (now (z .file)) (c .before .before .before .before .words-at .result + 8 * z .k) (8 * z .m .levels) (z .x) (trailingZeros 64 (c .before .before .loop .rest))
+    ≡ not (eqb (intersection (c .u64-at .result) (z .x)) 0)
+tested c =
+    let start = c .before .before .before .before .before .before in
+    ap (λ (w : ℕ). any (selected 64 w (start .args .x))) (sym (c .u64-at .ensures))
+    ∙ any-selected (c .u64-at .result) (start .args .x) (omega arith) (omega arith)
+
+loop-again : tie.Need-loop-again Inv-loop μ-loop
+loop-again c =
+    let l = looked (c .before .before) in
+    let f = c .before .before .before .loop .inv in
+    let e = tested (c .before) in
+    ⊎-elim
+    (λ w. rw (w .1, one-shifted (trailingZeros 64 (c .before .before .before .loop .rest)) (l .short)) (found-more _ _ (l .low) f (e ∙ rw (ne-eqb _ 0 (w .0 .taken)))))
+    (λ w. rw (w .1) (found-same _ _ (l .low) f (e ∙ rw (eq-eqb _ 0 (w .0 .left)))))
+    (c .if1 .came)
+
+returns : tie.Need-returns Inv-loop μ-loop
+returns c =
+    let start = c .before .before .before .before .before in
+    let z = start .args in
+    let end : c .before .loop .rest ≡ 0 = c .loop-test .left in
+    (λ i. found-all _ (z .lines) (c .before .loop .found) (rw end at (c .before .loop .inv)) i
+    ∙ same-line (z .m .lines) (z .m .levels) (now (z .file)) (z .k) (z .lines) (z .x) _ _ (start .pre .1 .1) (start .pre .1 .0)
+    (ap (λ (w : ℕ). w + 8 * z .k) (c .before .before .before .words-at .ensures)) refl i)
+
+pub selecting-spec : {M : Type 1} → statement M
+selecting-spec =
+    tie.close
+    (tie.spec
+    Inv-loop
+    μ-loop
+    words-at-requires
+    mul-at
+    add-at
+    mul-line
+    loop-holds
+    cast-i
+    mul-u64-at
+    add-u64-at
+    u64-at-requires
+    shl-found
+    sub-rest
+    loop-less
+    loop-again
+    returns)

@@ -1,0 +1,75 @@
+-- What the levels give lies between the intersection and the union of the bounds, whatever the bounds are. So the bounds only narrow on the way in, and
+-- what was decided of the lines that they left open holds between the narrower ones.
+-- Assumes nothing.
+use mathlib.Core.Bool.{Bool, true, false}
+use mathlib.Core.List.{List, [], _∷_}
+use mathlib.Core.Path.{_≡_}
+use Prim.Native.Nat.{ℕ, zero, suc, _≤_, min, max}
+use native.Mathlib.Omega.{arith}
+use borrow.Author.Tests.{eq-eqb, ne-eqb}
+use Rattle.sets.specs.Set.{isMember, boundedStep}
+use Rattle.sets.proofs.Order.{digit, digit-step}
+use Rattle.sets.proofs.Membership.{member-digit}
+use Rattle.trees.specs.Tree.{children}
+use Rattle.fixpoint.specs.Levels.{leastAmong, greatestAmong}
+use Rattle.fixpoint.specs.Restricted.{restricted, rise, fall, level}
+use Rattle.fixpoint.specs.Sets.{sets}
+use Rattle.model.specs.System.{System}
+use Rattle.evaluator.specs.ByLevels.{Decided}
+use Rattle.evaluator.specs.declared.Pending.{Pending}
+
+pub record Inside (a b x : ℕ) : Type 0 where
+  pub low : (i : ℕ) → min (digit a i) (digit b i) ≤ digit x i
+  pub high : (i : ℕ) → digit x i ≤ max (digit a i) (digit b i)
+
+inside-low : (a b : ℕ) → Inside a b a
+inside-low a b = record { low = λ i. omega arith; high = λ i. omega arith }
+
+inside-high : (a b : ℕ) → Inside a b b
+inside-high a b = record { low = λ i. omega arith; high = λ i. omega arith }
+
+inside-step : (a b x : ℕ) → Inside a b (boundedStep a b x)
+inside-step a b x = record { low = λ i. omega (arith, digit-step a b x i); high = λ i. omega (arith, digit-step a b x i) }
+
+-- narrower bounds on either side
+pub inside-from-low : {a b x y : ℕ} → Inside a b x → Inside x b y → Inside a b y
+inside-from-low f g = record { low = λ i. omega (arith, f .low i, g .low i); high = λ i. omega (arith, f .high i, g .high i) }
+
+pub inside-from-high : {a b x y : ℕ} → Inside a b x → Inside a x y → Inside a b y
+inside-from-high f g = record { low = λ i. omega (arith, f .low i, g .low i); high = λ i. omega (arith, f .high i, g .high i) }
+
+module _ (below : ℕ → ℕ → ℕ → List ℕ → List ℕ → ℕ) (inside : (c a b : ℕ) (u v : List ℕ) → Inside a b (below c a b u v)) where
+  pub rise-inside : (b : ℕ) (v : List ℕ) (a : ℕ) (us : List (List ℕ)) → Inside a b (rise below b v a us)
+  unfolding rise
+  rise-inside b v a [] = inside-low a b
+  rise-inside b v a (u ∷ us) = inside-from-low (inside a a b u v) (rise-inside b v (below a a b u v) us)
+
+  pub fall-inside : (a : ℕ) (u : List ℕ) (b : ℕ) (vs : List (List ℕ)) → Inside a b (fall below a u b vs)
+  unfolding fall
+  fall-inside a u b [] = inside-high a b
+  fall-inside a u b (v ∷ vs) = inside-from-high (inside b a b u v) (fall-inside a u (below b a b u v) vs)
+
+  level-inside : (t : Bool) (hu hv a b : ℕ) (u v : List ℕ) → Inside a b (level below t hu hv a b u v)
+  unfolding level
+  level-inside true hu hv a b u v = fall-inside a u b (children hv v)
+  level-inside false hu hv a b u v = rise-inside b v a (children hu u)
+
+pub restricted-inside : (n : ℕ) (sign : ℕ → Bool) (f : List ℕ → ℕ) (k : ℕ) (xs : List ℕ) (a b : ℕ) (u v : List ℕ) → Inside a b (restricted (sets n) sign f k xs a b u v)
+unfolding restricted
+restricted-inside n sign f zero xs a b u v = inside-step a b (f xs)
+restricted-inside n sign f (suc k) xs a b u v =
+    level-inside (λ c. restricted (sets n) sign f k (c ∷ xs)) (λ c. restricted-inside n sign f k (c ∷ xs)) (sign k) (leastAmong sign (suc k)) (greatestAmong sign (suc k)) a b u v
+
+-- what is decided between two bounds is decided between narrower ones
+module _ {s : System} {k : ℕ} {ys : List ℕ} {a b x : ℕ} {w : Pending} (f : Inside a b x) (d : Decided s k ys a b w) where
+  pub decided-low : Decided s k ys x b w
+  decided-low = record { value = λ i p q. d .value i p (out i p q); still = λ i p q. d .still i p (out i p q); lines = d .lines }
+    where
+      out : (i : ℕ) → isMember b i ≡ true → isMember x i ≡ false → isMember a i ≡ false
+      out i p q = ne-eqb (digit a i) 1 (λ e. omega (arith, f .low i, member-digit b i true p, member-digit x i false q))
+
+  pub decided-high : Decided s k ys a x w
+  decided-high = record { value = λ i p q. d .value i (in-b i p q) q; still = λ i p q. d .still i (in-b i p q) q; lines = d .lines }
+    where
+      in-b : (i : ℕ) → isMember x i ≡ true → isMember a i ≡ false → isMember b i ≡ true
+      in-b i p q = eq-eqb (digit b i) 1 (omega (arith, f .high i, member-digit x i true p, member-digit a i false q))

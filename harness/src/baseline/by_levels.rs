@@ -1,0 +1,187 @@
+//! The engine's own algorithm: what the outer arguments decide is carried from level to level, so that each argument is looked at
+//! once, and only by the lines that are undecided and that the bounds leave open.
+
+use super::{answer, full_set, u64_at, Found, Lent, Model};
+use crate::Answer;
+
+/// What the outer arguments decide: the query's set, if none of the undecided lines is decided any more.
+#[derive(Clone, Copy)]
+struct Pending {
+    set: u64,
+    undecided: u64,
+}
+
+impl Pending {
+    fn begin(m: Model) -> Pending {
+        let kinds = &m.file[m.kinds_at()..m.words_at()];
+        let set = kinds.iter().enumerate().fold(0, |set, (i, &kind)| set | ((kind != 0) as u64) << i);
+        Pending { set, undecided: full_set(m.lines) }
+    }
+
+    /// What the argument x of the level decides, of the lines in b that are not in a.
+    fn decide(self, m: Model, level: usize, x: u64, a: u64, b: u64) -> Pending {
+        let asked = self.undecided & b & !a;
+        let words = &m.file[m.words_at() + 8 * level..];
+        let hit = selecting(words, 8 * m.levels, asked & !self.set, x);
+        let missed = selecting(words, 8 * m.levels, asked & self.set, !x);
+        let decided = hit | missed;
+        Pending { set: self.set ^ decided, undecided: asked ^ decided }
+    }
+}
+
+/// Those of some lines whose word selects a line of x.
+fn selecting(words: &[u8], line: usize, lines: u64, x: u64) -> u64 {
+    let (mut rest, mut found) = (lines, 0);
+    while rest != 0 {
+        let i = rest.trailing_zeros() as usize;
+        found |= ((u64_at(words, line * i) & x != 0) as u64) << i;
+        rest &= rest - 1;
+    }
+    found
+}
+
+// ---- plain rounds ----
+
+fn innermost_rounds(m: Model, a: u64, b: u64, w: Pending, left: u64) -> Option<(u64, u64)> {
+    let mut x = if m.is_greatest(0) { b } else { a };
+    let mut left = left;
+    while left != 0 {
+        let set = a | (b & w.decide(m, 0, x, a, b).set);
+        left -= 1;
+        if set == x {
+            return Some((set, left));
+        }
+        x = set;
+    }
+    None
+}
+
+fn plain_level(m: Model, a: u64, b: u64, k: usize, w: Pending, left: u64) -> Option<(u64, u64)> {
+    let below = k - 1;
+    if below == 0 {
+        return innermost_rounds(m, a, b, w, left);
+    }
+    let mut x = if m.is_greatest(below) { b } else { a };
+    let mut left = left;
+    loop {
+        let (set, unused) = plain_level(m, a, b, below, w.decide(m, below, x, a, b), left)?;
+        left = unused;
+        if set == x {
+            return Some((set, left));
+        }
+        x = set;
+    }
+}
+
+// ---- the innermost level ----
+
+fn innermost_least(m: Model, w: Pending, a: u64, b: u64, leaves: usize) -> Found {
+    let mut low = a;
+    for _ in 0..leaves {
+        low |= b & w.decide(m, 0, low, low, b).set;
+    }
+    Found { set: low, count: leaves as u64 }
+}
+
+fn innermost_greatest(m: Model, w: Pending, a: u64, b: u64, leaves: usize) -> Found {
+    let mut high = b;
+    for _ in 0..leaves {
+        high = a | (high & w.decide(m, 0, high, a, high).set);
+    }
+    Found { set: high, count: leaves as u64 }
+}
+
+// ---- built-in trees: those that come later wait, the n of each a digit to the base 128 ----
+
+fn in_front(n: usize, waiting: u64) -> u64 {
+    let (mut left, mut all) = (n, waiting);
+    while left != 0 {
+        all = 128 * all + left as u64;
+        left /= 2;
+    }
+    all
+}
+
+fn built_least(m: Model, below: usize, w: Pending, a: u64, b: u64, p: usize, q: usize) -> Found {
+    let (mut low, mut count, mut waiting) = (a, 0, in_front(p, 0));
+    while waiting != 0 {
+        let n = (waiting % 128) as usize;
+        let child = built_level(m, below, w.decide(m, below, low, low, b), low, b, n, q);
+        (low, count) = (child.set, count + child.count);
+        waiting = in_front((n - 1) / 2, waiting / 128);
+    }
+    Found { set: low, count }
+}
+
+fn built_greatest(m: Model, below: usize, w: Pending, a: u64, b: u64, p: usize, q: usize) -> Found {
+    let (mut high, mut count, mut waiting) = (b, 0, in_front(q, 0));
+    while waiting != 0 {
+        let n = (waiting % 128) as usize;
+        let child = built_level(m, below, w.decide(m, below, high, a, high), a, high, p, n);
+        (high, count) = (child.set, count + child.count);
+        waiting = in_front((n - 1) / 2, waiting / 128);
+    }
+    Found { set: high, count }
+}
+
+fn built_level(m: Model, k: usize, w: Pending, a: u64, b: u64, p: usize, q: usize) -> Found {
+    match (m.is_greatest(k - 1), k) {
+        (true, 1) => innermost_greatest(m, w, a, b, q),
+        (true, _) => built_greatest(m, k - 1, w, a, b, p, q),
+        (false, 1) => innermost_least(m, w, a, b, p),
+        (false, _) => built_least(m, k - 1, w, a, b, p, q),
+    }
+}
+
+// ---- lent trees ----
+
+fn lent_least(m: Model, below: usize, w: Pending, a: u64, b: u64, u: Lent, v: Lent) -> Found {
+    let (mut low, mut count, mut rest) = (a, 0, Some(u));
+    while let Some(tree) = rest {
+        let (first, others) = tree.split();
+        let child = lent_level(m, below, w.decide(m, below, low, low, b), low, b, first, v);
+        (low, count, rest) = (child.set, count + child.count, others);
+    }
+    Found { set: low, count }
+}
+
+fn lent_greatest(m: Model, below: usize, w: Pending, a: u64, b: u64, u: Lent, v: Lent) -> Found {
+    let (mut high, mut count, mut rest) = (b, 0, Some(v));
+    while let Some(tree) = rest {
+        let (first, others) = tree.split();
+        let child = lent_level(m, below, w.decide(m, below, high, a, high), a, high, u, first);
+        (high, count, rest) = (child.set, count + child.count, others);
+    }
+    Found { set: high, count }
+}
+
+fn lent_level(m: Model, k: usize, w: Pending, a: u64, b: u64, u: Lent, v: Lent) -> Found {
+    match (m.is_greatest(k - 1), k) {
+        (true, 1) => innermost_greatest(m, w, a, b, v.gaps.len() + 1),
+        (true, _) => lent_greatest(m, k - 1, w, a, b, u, v),
+        (false, 1) => innermost_least(m, w, a, b, u.gaps.len() + 1),
+        (false, _) => lent_least(m, k - 1, w, a, b, u, v),
+    }
+}
+
+// ---- the operations ----
+
+pub fn plain(file: &[u8], a: u64, b: u64, ceiling: u64) -> Answer {
+    answer(Model::admit(file, a, b).and_then(|m| {
+        let (set, left) = plain_level(m, a, b, m.levels, Pending::begin(m), ceiling).ok_or(10_u64)?;
+        Ok(Found { set, count: ceiling - left })
+    }))
+}
+
+pub fn built(file: &[u8], a: u64, b: u64) -> Answer {
+    answer(
+        Model::admit(file, a, b).map(|m| built_level(m, m.levels, Pending::begin(m), a, b, m.lines, m.lines)),
+    )
+}
+
+pub fn lent(file: &[u8], a: u64, b: u64, u: &[u8], v: &[u8]) -> Answer {
+    answer(Model::admit(file, a, b).and_then(|m| {
+        let (u, v) = Lent::of(m, u, v)?;
+        Ok(lent_level(m, m.levels, Pending::begin(m), a, b, u, v))
+    }))
+}

@@ -1,0 +1,147 @@
+//! The three routes in safe Rust over the same bytes as the engine, with the same checks. The benchmark compares their speed with the
+//! engine's. They prove nothing and are no reference.
+//!
+//! - `whole`: a whole query at each leaf, and the recursion of document 01.
+//! - `by_levels`: the engine's own algorithm.
+
+pub mod by_levels;
+pub mod whole;
+
+use crate::Answer;
+
+const MAX_LINES: usize = 64;
+const MAX_LEVELS: usize = 8;
+const MAX_GAPS: usize = 1023;
+const SIGNS_AT: usize = 16;
+
+/// A checked file with its two counts.
+#[derive(Clone, Copy)]
+struct Model<'a> {
+    file: &'a [u8],
+    lines: usize,
+    levels: usize,
+}
+
+/// A set, and the queries made on the way to it.
+struct Found {
+    set: u64,
+    count: u64,
+}
+
+fn u16_at(file: &[u8], at: usize) -> usize {
+    u16::from_le_bytes(file[at..at + 2].try_into().expect("two bytes")) as usize
+}
+
+fn u32_at(file: &[u8], at: usize) -> usize {
+    u32::from_le_bytes(file[at..at + 4].try_into().expect("four bytes")) as usize
+}
+
+fn u64_at(file: &[u8], at: usize) -> u64 {
+    u64::from_le_bytes(file[at..at + 8].try_into().expect("eight bytes"))
+}
+
+fn full_set(n: usize) -> u64 {
+    if n == 64 {
+        u64::MAX
+    } else {
+        (1 << n) - 1
+    }
+}
+
+impl<'a> Model<'a> {
+    /// Refusals 1 to 8.
+    fn check(file: &'a [u8]) -> Result<Model<'a>, u64> {
+        if file.len() < SIGNS_AT {
+            return Err(1);
+        }
+        let (lines, levels) = (u16_at(file, 0), u16_at(file, 2));
+        if lines == 0 || lines > MAX_LINES {
+            return Err(2);
+        }
+        if levels == 0 || levels > MAX_LEVELS {
+            return Err(3);
+        }
+        let model = Model { file, lines, levels };
+        let offsets = [SIGNS_AT, model.kinds_at(), model.words_at()];
+        if [u32_at(file, 4), u32_at(file, 8), u32_at(file, 12)] != offsets {
+            return Err(4);
+        }
+        if file.len() != model.words_at() + 8 * lines * levels {
+            return Err(5);
+        }
+        if file[SIGNS_AT..model.words_at()].iter().any(|&byte| byte > 1) {
+            return Err(6);
+        }
+        let word = |at: usize| u64_at(file, model.words_at() + 8 * at);
+        if (0..lines * levels).any(|at| word(at) & !full_set(lines) != 0) {
+            return Err(7);
+        }
+        if (0..lines).any(|i| (0..levels).all(|k| word(i * levels + k) == 0)) {
+            return Err(8);
+        }
+        Ok(model)
+    }
+
+    /// Refusals 1 to 9.
+    fn admit(file: &'a [u8], a: u64, b: u64) -> Result<Model<'a>, u64> {
+        let model = Model::check(file)?;
+        if (a | b) & !full_set(model.lines) != 0 || a & !b != 0 {
+            return Err(9);
+        }
+        Ok(model)
+    }
+
+    fn kinds_at(self) -> usize {
+        SIGNS_AT + self.levels
+    }
+
+    fn words_at(self) -> usize {
+        SIGNS_AT + self.levels + self.lines
+    }
+
+    fn is_greatest(self, level: usize) -> bool {
+        self.file[SIGNS_AT + level] == 1
+    }
+
+    fn least_levels(self) -> usize {
+        (0..self.levels).filter(|&level| !self.is_greatest(level)).count()
+    }
+}
+
+/// The gaps of a tree with its height.
+#[derive(Clone, Copy)]
+struct Lent<'a> {
+    height: usize,
+    gaps: &'a [u8],
+}
+
+impl<'a> Lent<'a> {
+    /// The two trees, of the heights that the model asks for. Refusal 11.
+    fn of(m: Model, u: &'a [u8], v: &'a [u8]) -> Result<(Lent<'a>, Lent<'a>), u64> {
+        let least = m.least_levels();
+        let (u, v) = (Lent { height: least, gaps: u }, Lent { height: m.levels - least, gaps: v });
+        if u.is_bad() || v.is_bad() {
+            return Err(11);
+        }
+        Ok((u, v))
+    }
+
+    fn is_bad(self) -> bool {
+        self.gaps.len() > MAX_GAPS || self.gaps.iter().any(|&gap| gap == 0 || gap as usize > self.height)
+    }
+
+    /// The first child of the root, and the tree of the others if there are any.
+    fn split(self) -> (Lent<'a>, Option<Lent<'a>>) {
+        let cut = self.gaps.iter().position(|&gap| gap as usize == self.height);
+        let end = cut.unwrap_or(self.gaps.len());
+        let first = Lent { height: self.height - 1, gaps: &self.gaps[..end] };
+        (first, cut.map(|cut| Lent { height: self.height, gaps: &self.gaps[cut + 1..] }))
+    }
+}
+
+fn answer(found: Result<Found, u64>) -> Answer {
+    match found {
+        Ok(found) => Answer::judged(found.set, found.count),
+        Err(number) => Answer::refused(number),
+    }
+}
