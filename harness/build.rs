@@ -1,4 +1,4 @@
-//! Links the engine's static library.
+//! Links the engine's static library, and an earlier engine's where the benchmark has one (`earlier.sh`).
 
 use std::path::Path;
 
@@ -13,4 +13,12 @@ fn main() {
     }
     println!("cargo:rustc-link-search=native={}", folder.display());
     println!("cargo:rustc-link-lib=static=solver_c");
+
+    println!("cargo:rerun-if-env-changed=EARLIER_ENGINE");
+    println!("cargo:rustc-check-cfg=cfg(earlier_engine)");
+    if let Ok(folder) = std::env::var("EARLIER_ENGINE") {
+        println!("cargo:rustc-link-search=native={folder}");
+        println!("cargo:rustc-link-lib=static=earlier");
+        println!("cargo:rustc-cfg=earlier_engine");
+    }
 }

@@ -36,19 +36,6 @@ mod raw {
             arguments_len: usize,
             answer: *mut u64,
         );
-        pub fn solver_plain(file: *const u8, file_len: usize, a: u64, b: u64, ceiling: u64, answer: *mut u64);
-        pub fn solver_built(file: *const u8, file_len: usize, a: u64, b: u64, answer: *mut u64);
-        pub fn solver_lent(
-            file: *const u8,
-            file_len: usize,
-            a: u64,
-            b: u64,
-            u: *const u8,
-            u_len: usize,
-            v: *const u8,
-            v_len: usize,
-            answer: *mut u64,
-        );
         pub fn solver_leaf_count(n: usize, h: usize, answer: *mut u64);
     }
 }
@@ -101,18 +88,49 @@ pub fn query(file: &[u8], arguments: &[u64]) -> Answer {
     })
 }
 
-pub fn plain(file: &[u8], a: u64, b: u64, ceiling: u64) -> Answer {
-    answered(|answer| unsafe { raw::solver_plain(file.as_ptr(), file.len(), a, b, ceiling, answer) })
+/// The three judgings, under the names that an engine's library has for them.
+macro_rules! judgings {
+    ($plain:ident, $built:ident, $lent:ident) => {
+        extern "C" {
+            fn $plain(file: *const u8, file_len: usize, a: u64, b: u64, ceiling: u64, answer: *mut u64);
+            fn $built(file: *const u8, file_len: usize, a: u64, b: u64, answer: *mut u64);
+            fn $lent(
+                file: *const u8,
+                file_len: usize,
+                a: u64,
+                b: u64,
+                u: *const u8,
+                u_len: usize,
+                v: *const u8,
+                v_len: usize,
+                answer: *mut u64,
+            );
+        }
+
+        pub fn plain(file: &[u8], a: u64, b: u64, ceiling: u64) -> Answer {
+            answered(|answer| unsafe { $plain(file.as_ptr(), file.len(), a, b, ceiling, answer) })
+        }
+
+        pub fn built(file: &[u8], a: u64, b: u64) -> Answer {
+            answered(|answer| unsafe { $built(file.as_ptr(), file.len(), a, b, answer) })
+        }
+
+        pub fn lent(file: &[u8], a: u64, b: u64, u: &[u8], v: &[u8]) -> Answer {
+            answered(|answer| unsafe {
+                $lent(file.as_ptr(), file.len(), a, b, u.as_ptr(), u.len(), v.as_ptr(), v.len(), answer)
+            })
+        }
+    };
 }
 
-pub fn built(file: &[u8], a: u64, b: u64) -> Answer {
-    answered(|answer| unsafe { raw::solver_built(file.as_ptr(), file.len(), a, b, answer) })
-}
+judgings!(solver_plain, solver_built, solver_lent);
 
-pub fn lent(file: &[u8], a: u64, b: u64, u: &[u8], v: &[u8]) -> Answer {
-    answered(|answer| unsafe {
-        raw::solver_lent(file.as_ptr(), file.len(), a, b, u.as_ptr(), u.len(), v.as_ptr(), v.len(), answer)
-    })
+/// The judgings of an earlier engine, which `earlier.sh` links under other names.
+#[cfg(earlier_engine)]
+pub mod earlier {
+    use super::{answered, Answer};
+
+    judgings!(earlier_plain, earlier_built, earlier_lent);
 }
 
 pub fn leaf_count(n: usize, h: usize) -> Answer {

@@ -1,5 +1,5 @@
-//! Speed of the engine beside safe Rust, with a whole query at each leaf and with the engine's own algorithm, all called in
-//! turn in one run.
+//! Speed of the engine beside safe Rust, with a whole query at each leaf and with the engine's own algorithm, and beside an
+//! earlier engine where one is linked (`earlier.sh`): all are called in turn in one run.
 //!
 //! `cargo run --release` takes some minutes, `cargo run --release -- --quick` some seconds.
 
@@ -37,22 +37,72 @@ const QUICK: Effort =
     Effort { models: 3, large_models: 1, samples: 5, seconds: 0.005, most_queries: 500_000 };
 
 /// Who judges.
-#[derive(Clone, Copy)]
+#[derive(Clone, Copy, Debug, PartialEq)]
 enum Judge {
     Engine,
     /// Rust with a whole query at each leaf.
     Whole,
     /// Rust with the engine's own algorithm.
     Levels,
+    /// The engine of an earlier commit.
+    #[cfg(earlier_engine)]
+    Earlier,
 }
 
-const JUDGES: [Judge; 3] = [Judge::Engine, Judge::Whole, Judge::Levels];
+const JUDGES: &[Judge] = &[
+    Judge::Engine,
+    Judge::Whole,
+    Judge::Levels,
+    #[cfg(earlier_engine)]
+    Judge::Earlier,
+];
 
-/// The median times of one judgement, in seconds, in the order of `JUDGES`, and the medians of the engine's time as a
-/// multiple of each.
+impl Judge {
+    fn name(self) -> &'static str {
+        match self {
+            Judge::Engine => "engine",
+            Judge::Whole => "whole",
+            Judge::Levels => "levels",
+            #[cfg(earlier_engine)]
+            Judge::Earlier => "earlier",
+        }
+    }
+
+    fn plain(self, file: &[u8], a: u64, b: u64, ceiling: u64) -> Answer {
+        match self {
+            Judge::Engine => ffi::plain(file, a, b, ceiling),
+            Judge::Whole => whole::plain(file, a, b, ceiling),
+            Judge::Levels => by_levels::plain(file, a, b, ceiling),
+            #[cfg(earlier_engine)]
+            Judge::Earlier => ffi::earlier::plain(file, a, b, ceiling),
+        }
+    }
+
+    fn built(self, file: &[u8], a: u64, b: u64) -> Answer {
+        match self {
+            Judge::Engine => ffi::built(file, a, b),
+            Judge::Whole => whole::built(file, a, b),
+            Judge::Levels => by_levels::built(file, a, b),
+            #[cfg(earlier_engine)]
+            Judge::Earlier => ffi::earlier::built(file, a, b),
+        }
+    }
+
+    fn lent(self, file: &[u8], a: u64, b: u64, u: &[u8], v: &[u8]) -> Answer {
+        match self {
+            Judge::Engine => ffi::lent(file, a, b, u, v),
+            Judge::Whole => whole::lent(file, a, b, u, v),
+            Judge::Levels => by_levels::lent(file, a, b, u, v),
+            #[cfg(earlier_engine)]
+            Judge::Earlier => ffi::earlier::lent(file, a, b, u, v),
+        }
+    }
+}
+
+/// The median time of one judgement, in seconds, and the median of the engine's time as a multiple of it; by judge.
 struct Times {
-    seconds: [f64; 3],
-    ratios: [f64; 3],
+    seconds: Vec<f64>,
+    ratios: Vec<f64>,
 }
 
 fn median(mut times: Vec<f64>) -> f64 {
@@ -71,13 +121,14 @@ fn timed(calls: usize, model: &Subject, judge: &dyn Fn(&Subject) -> Answer) -> f
 
 /// Calls all in turn, model by model, so that a machine that slows down for a while slows all. What takes long is repeated
 /// less, but five times at the least.
-fn measure(effort: Effort, models: &[Subject], judges: [&dyn Fn(&Subject) -> Answer; 3]) -> Times {
+fn measure(effort: Effort, models: &[Subject], judges: &[&dyn Fn(&Subject) -> Answer]) -> Times {
     let once = |judge| models.iter().map(|model| timed(1, model, judge)).sum::<f64>();
-    let calls = judges.map(|judge| (effort.seconds / once(judge)).ceil() as usize);
-    let samples = if once(judges[1]) > 0.05 { 5 } else { effort.samples };
-    let (mut seconds, mut ratios) = ([const { Vec::new() }; 3], [const { Vec::new() }; 3]);
+    let calls: Vec<usize> =
+        judges.iter().map(|&judge| (effort.seconds / once(judge)).ceil() as usize).collect();
+    let samples = if judges.iter().any(|&judge| once(judge) > 0.05) { 5 } else { effort.samples };
+    let (mut seconds, mut ratios) = (vec![Vec::new(); judges.len()], vec![Vec::new(); judges.len()]);
     for sample in 0..samples {
-        let mut times = [0.0; 3];
+        let mut times = vec![0.0; judges.len()];
         for (i, model) in models.iter().enumerate() {
             // Another one first every time.
             for turn in 0..judges.len() {
@@ -90,7 +141,8 @@ fn measure(effort: Effort, models: &[Subject], judges: [&dyn Fn(&Subject) -> Ans
             ratios[at].push(times[0] / times[at]);
         }
     }
-    Times { seconds: seconds.map(median), ratios: ratios.map(median) }
+    let medians = |times: Vec<Vec<f64>>| times.into_iter().map(median).collect();
+    Times { seconds: medians(seconds), ratios: medians(ratios) }
 }
 
 #[derive(Clone, Copy, Debug, PartialEq)]
@@ -178,17 +230,10 @@ impl Subject {
 
     fn judged(&self, judge: Judge, route: Route) -> Answer {
         let (file, a, b) = (black_box(&self.file[..]), black_box(0), black_box(full(self.lines)));
-        let (u, v) = (black_box(&self.u[..]), black_box(&self.v[..]));
-        match (judge, route) {
-            (Judge::Engine, Route::Built) => ffi::built(file, a, b),
-            (Judge::Engine, Route::Lent) => ffi::lent(file, a, b, u, v),
-            (Judge::Engine, Route::Plain) => ffi::plain(file, a, b, black_box(CEILING)),
-            (Judge::Whole, Route::Built) => whole::built(file, a, b),
-            (Judge::Whole, Route::Lent) => whole::lent(file, a, b, u, v),
-            (Judge::Whole, Route::Plain) => whole::plain(file, a, b, black_box(CEILING)),
-            (Judge::Levels, Route::Built) => by_levels::built(file, a, b),
-            (Judge::Levels, Route::Lent) => by_levels::lent(file, a, b, u, v),
-            (Judge::Levels, Route::Plain) => by_levels::plain(file, a, b, black_box(CEILING)),
+        match route {
+            Route::Built => judge.built(file, a, b),
+            Route::Lent => judge.lent(file, a, b, black_box(&self.u), black_box(&self.v)),
+            Route::Plain => judge.plain(file, a, b, black_box(CEILING)),
         }
     }
 }
@@ -212,22 +257,15 @@ fn time(seconds: f64) -> String {
 }
 
 fn heading(title: &str) {
-    println!("\n{title}");
-    println!(
-        "{:5} {:>5} {:>6} {:6} {:>9} {:>9} {:>9} {:>9} {:>7} {:>6} {:>6} {:>6}",
-        "route",
-        "lines",
-        "levels",
-        "model",
-        "queries",
-        "engine",
-        "whole",
-        "levels",
-        "Mq/s",
-        "whole",
-        "levels",
-        "growth"
-    );
+    print!("\n{title}\n{:5} {:>5} {:>6} {:6} {:>9}", "route", "lines", "levels", "model", "queries");
+    for judge in JUDGES {
+        print!(" {:>8}", judge.name());
+    }
+    print!(" {:>6}", "Mq/s");
+    for judge in &JUDGES[1..] {
+        print!(" {:>7}", judge.name());
+    }
+    println!(" growth");
 }
 
 /// Measures one row and prints it, with the engine's time as a multiple of the row's before. Gives that time.
@@ -248,67 +286,80 @@ fn row(
     let mut total = 0;
     for model in &models {
         let answer = model.judged(Judge::Engine, route);
-        for judge in JUDGES {
-            assert_eq!(answer, model.judged(judge, route), "the engine and Rust judge differently");
+        for &judge in JUDGES {
+            assert_eq!(answer, model.judged(judge, route), "the engine and {judge:?} judge differently");
         }
         // A plain run that was cut off has made as many queries as it may.
         total += if answer.number == 10 { CEILING } else { answer.count };
     }
-    let by = |judge| move |model: &Subject| model.judged(judge, route);
-    let (engine, whole, levelled) = (by(Judge::Engine), by(Judge::Whole), by(Judge::Levels));
-    let Times { seconds, ratios } = measure(effort, &models, [&engine, &whole, &levelled]);
+    let judges: Vec<_> =
+        JUDGES.iter().map(|&judge| move |model: &Subject| model.judged(judge, route)).collect();
+    let judges: Vec<&dyn Fn(&Subject) -> Answer> = judges.iter().map(|judge| judge as _).collect();
+    let Times { seconds, ratios } = measure(effort, &models, &judges);
     let queries = total as f64 / models.len() as f64;
-    println!(
-        "{:5} {:5} {:6} {:6} {:9.0} {:>9} {:>9} {:>9} {:7.2} {:6.3} {:6.2} {:>6}",
-        route.name(),
-        lines,
-        levels,
-        first.name,
-        queries,
-        time(seconds[0]),
-        time(seconds[1]),
-        time(seconds[2]),
-        queries / seconds[0] / 1e6,
-        ratios[1],
-        ratios[2],
-        before.map_or(String::new(), |before| format!("{:.1}", seconds[0] / before)),
-    );
+    print!("{:5} {lines:5} {levels:6} {:6} {queries:9.0}", route.name(), first.name);
+    for &seconds in &seconds {
+        print!(" {:>8}", time(seconds));
+    }
+    print!(" {:6.1}", queries / seconds[0] / 1e6);
+    for ratio in &ratios[1..] {
+        print!(" {ratio:7.3}");
+    }
+    println!("{}", before.map_or(String::new(), |before| format!(" {:6.1}", seconds[0] / before)));
     Some(seconds[0])
 }
 
-// ---- the stack of the deepest lent run ----
+// ---- the stack of the deepest runs ----
 
-/// Judges with 1,023 gaps on both sides, all at the root, and 8 levels: the most calls within calls.
-fn deepest_run(judge: Judge) -> u64 {
-    let model = random::model(&mut Random::new(7), 1, &random::alternating(8, false), Density::Few);
-    let (file, gaps) = (model.file(), [4; 1023]);
-    let judge = match judge {
-        Judge::Engine => ffi::lent,
-        Judge::Whole => whole::lent,
-        Judge::Levels => by_levels::lent,
-    };
-    judge(&file, 0, 1, &gaps, &gaps).count
+/// The trees with the most calls within calls.
+#[derive(Clone, Copy)]
+enum Deepest {
+    /// 1,023 gaps on both sides, all at the root, and 8 levels.
+    Lent,
+    /// 64 lines and 8 levels.
+    Built,
 }
 
-/// Whether the deepest run ends on a thread with so much stack. A run that does not ends its process, so it has one of
-/// its own.
-fn ends_on(who: &str, kib: usize) -> bool {
+const DEEPEST: [(&str, Deepest); 2] = [("lent", Deepest::Lent), ("built", Deepest::Built)];
+
+impl Deepest {
+    /// Whether the run ends as it must.
+    fn run(self, judge: Judge) -> bool {
+        let lines = match self {
+            Deepest::Lent => 1,
+            Deepest::Built => 64,
+        };
+        let signs = random::alternating(8, false);
+        let file = random::model(&mut Random::new(7), lines, &signs, Density::Few).file();
+        match self {
+            Deepest::Lent => judge.lent(&file, 0, 1, &[4; 1023], &[4; 1023]).count == 1024 * 1024,
+            Deepest::Built => judge.built(&file, 0, u64::MAX).count == 2645 * 2645,
+        }
+    }
+}
+
+/// Whether a deepest run ends on a thread with so much stack. A run that does not ends its process, so it has one of its
+/// own.
+fn ends_on(trees: &str, judge: Judge, kib: usize) -> bool {
     let program = std::env::current_exe().expect("the path of this program");
     let mut child = Command::new(program);
-    child.args(["--stack", who, &kib.to_string()]).stdout(Stdio::null()).stderr(Stdio::null());
+    child
+        .args(["--stack", trees, judge.name(), &kib.to_string()])
+        .stdout(Stdio::null())
+        .stderr(Stdio::null());
     child.status().expect("a process of this program").success()
 }
 
-/// The smallest stack, in steps of 16 KiB up to 8 MiB, on which the deepest run ends.
-fn stack_needed(who: &str) -> Option<usize> {
+/// The smallest stack, in steps of 16 KiB up to 8 MiB, on which a deepest run ends.
+fn stack_needed(trees: &str, judge: Judge) -> Option<usize> {
     let step = 16;
-    let (mut short, mut enough) = (1, 8192 / step);
-    if !ends_on(who, enough * step) {
+    let (mut short, mut enough) = (0, 8192 / step);
+    if !ends_on(trees, judge, enough * step) {
         return None;
     }
     while enough - short > 1 {
         let middle = (short + enough) / 2;
-        if ends_on(who, middle * step) {
+        if ends_on(trees, judge, middle * step) {
             enough = middle;
         } else {
             short = middle;
@@ -318,33 +369,40 @@ fn stack_needed(who: &str) -> Option<usize> {
 }
 
 fn print_stacks() {
-    println!("\nstack of the deepest lent run: 8 levels, 1,023 gaps on both sides");
-    for who in ["engine", "whole", "levels"] {
-        match stack_needed(who) {
-            Some(kib) => println!("{who:6} {kib:6} KiB"),
-            None => println!("{who:6} more than 8192 KiB"),
+    println!("\nstack of the deepest runs at 8 levels, in KiB: lent trees with 1,023 gaps on both sides; built-in trees, 64 lines");
+    print!("{:6}", "");
+    for judge in JUDGES {
+        print!(" {:>8}", judge.name());
+    }
+    println!();
+    for (trees, _) in DEEPEST {
+        print!("{trees:6}");
+        for &judge in JUDGES {
+            match stack_needed(trees, judge) {
+                Some(kib) => print!(" {kib:8}"),
+                None => print!(" {:>8}", "> 8192"),
+            }
         }
+        println!();
     }
 }
 
-/// Ends without an error if the deepest run does so on a thread with this stack.
-fn run_on(who: &str, kib: &str) {
-    let judge = match who {
-        "engine" => Judge::Engine,
-        "whole" => Judge::Whole,
-        _ => Judge::Levels,
-    };
+/// Ends without an error if a deepest run does so on a thread with this stack.
+fn run_on(trees: &str, judge: &str, kib: &str) {
+    let &(_, deepest) = DEEPEST.iter().find(|(name, _)| *name == trees).expect("lent or built");
+    let &judge = JUDGES.iter().find(|known| known.name() == judge).expect("a judge's name");
     let stack = 1024 * kib.parse::<usize>().expect("a number of KiB");
-    let thread = std::thread::Builder::new().stack_size(stack).spawn(move || deepest_run(judge));
-    assert_eq!(thread.expect("a thread").join().expect("a run"), 1024 * 1024);
+    let thread = std::thread::Builder::new().stack_size(stack).spawn(move || deepest.run(judge));
+    assert!(thread.expect("a thread").join().expect("a run"), "another count");
 }
 
 fn benchmark(effort: Effort) {
     let Effort { models, large_models, .. } = effort;
-    println!("Time of one judgement between empty and full: the engine's, that of Rust with a whole query at each leaf, and");
-    println!("that of Rust with the engine's own algorithm; each the mean over {models} random models ({large_models} where one takes");
-    println!("over a million queries), and of that the median of several times in turn. The mean queries, and millions of them");
-    println!("a second; medians of engine's time / Rust's; growth: engine's time / the row's before. Signs and kinds alternate.");
+    println!("Time of one judgement between empty and full: by the engine; by Rust with a whole query at each leaf (whole), and with");
+    println!("the engine's own algorithm (levels); by an earlier engine, where there is one (earlier). Each is the mean over {models} random");
+    println!("models ({large_models} where one takes over a million queries), and of that the median of several times in turn. Then the millions");
+    println!("of queries a second, and the medians of the engine's time / each other's; growth: its time / the row's before. Signs");
+    println!("and kinds alternate.");
 
     for (route, title) in [
         (Route::Built, "by built-in trees, 64 lines"),
@@ -385,7 +443,7 @@ fn main() {
     match arguments.iter().map(String::as_str).collect::<Vec<_>>()[..] {
         [] => benchmark(FULL),
         ["--quick"] => benchmark(QUICK),
-        ["--stack", who, kib] => run_on(who, kib),
+        ["--stack", trees, judge, kib] => run_on(trees, judge, kib),
         _ => {
             eprintln!("usage: harness [--quick]");
             std::process::exit(2);

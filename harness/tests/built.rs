@@ -61,7 +61,7 @@ fn larger_models_have_the_winning_lines_of_their_game() {
     let mut between = 0;
     for round in 0..300 {
         let (n, d) = (random.between(5, 64), random.between(2, 8));
-        let mut case = case_within(&mut random, n, d, 100_000);
+        let mut case = random::case(&mut random, n, d);
         if round % 2 == 0 {
             (case.a, case.b) = (0, full(n));
         }
@@ -78,7 +78,7 @@ fn larger_models_have_the_winning_lines_of_their_game() {
 fn lower_bound_models_are_judged_too() {
     let mut random = Random::new(504);
     for n in [1, 2, 3, 4, 7, 8, 15, 16, 31, 32, 63, 64] {
-        for h in 1..=if n < 32 { 3 } else { 2 } {
+        for h in 1..=4 {
             let case = Case::new(random::hard_model(&mut random, n, h), (0, full(n)));
             let (a, b) = case.bounds();
             let set = winning_lines(&case.model, &a, &b);

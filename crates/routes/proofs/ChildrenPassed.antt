@@ -9,13 +9,8 @@ use Rattle.fixpoint.proofs.Restricted.{fall-is-rise}
 use Rattle.model.specs.System.{System}
 use Rattle.routes.specs.declared.step.Found.{Found}
 use Rattle.routes.specs.Parts.{Gives, restrictedFrom, queriesFrom}
-use Rattle.routes.proofs.OverChildren.{then, Rises, rises-none, rises-one, rises-append, sum-append}
+use Rattle.routes.proofs.OverChildren.{then, rises-none, rises-child, sum-append}
 use Rattle.routes.proofs.Levels.{LeastGives, GreatestGives}
-
--- one child more
-module _ (p : ℕ → ℕ → ℕ → List ℕ → List ℕ → ℕ) (b : ℕ) (v : List ℕ) (count : List ℕ → ℕ) (a : ℕ) (r c : Found) (passed : List (List ℕ)) (w : List ℕ) where
-  rises-child : Rises p b v count r a passed → Gives c (p (r .set) (r .set) b w v) (count w) → Rises p b v count (then r c) a (passed ++ w ∷ [])
-  rises-child f g = rises-append p b v count r c a passed (w ∷ []) f (rises-one p b v count c (r .set) w g)
 
 module _ (s : System) (k : ℕ) (ys : List ℕ) (a b : ℕ) where
   pub least-begin : (v : List ℕ) → LeastGives s k ys a b [] v (record { set = a; count = 0 })
@@ -26,11 +21,11 @@ module _ (s : System) (k : ℕ) (ys : List ℕ) (a b : ℕ) where
 
   pub least-child : (r c : Found) (passed : List (List ℕ)) (w v : List ℕ) → LeastGives s k ys a b passed v r
       → Gives c (restrictedFrom s k (r .set ∷ ys) (r .set) b w v) (queriesFrom s k w v) → LeastGives s k ys a b (passed ++ w ∷ []) v (then r c)
-  least-child r c passed w v f g = rises-child _ _ _ _ a r c passed w f g
+  least-child r c passed w v f g = rises-child _ _ _ _ r c a passed w f g
 
   pub greatest-child : (r c : Found) (passed : List (List ℕ)) (w u : List ℕ) → GreatestGives s k ys a b u passed r
       → Gives c (restrictedFrom s k (r .set ∷ ys) a (r .set) u w) (queriesFrom s k u w) → GreatestGives s k ys a b u (passed ++ w ∷ []) (then r c)
-  greatest-child r c passed w u f g = rw fall-is-rise (rises-child _ _ _ _ b r c passed w (rw fall-is-rise at f) g)
+  greatest-child r c passed w u f g = rw fall-is-rise (rises-child _ _ _ _ r c b passed w (rw fall-is-rise at f) g)
 
 -- the queries of the children passed are among those of all
 pub passed-few : (count : List ℕ → ℕ) {all : List (List ℕ)} (passed others : List (List ℕ)) → all ≡ passed ++ others → sumOver count passed ≤ sumOver count all

@@ -32,10 +32,10 @@ inside-step : (a b x : ℕ) → Inside a b (boundedStep a b x)
 inside-step a b x = record { low = λ i. omega (arith, digit-step a b x i); high = λ i. omega (arith, digit-step a b x i) }
 
 -- narrower bounds on either side
-pub inside-from-low : {a b x y : ℕ} → Inside a b x → Inside x b y → Inside a b y
+inside-from-low : {a b x y : ℕ} → Inside a b x → Inside x b y → Inside a b y
 inside-from-low f g = record { low = λ i. omega (arith, f .low i, g .low i); high = λ i. omega (arith, f .high i, g .high i) }
 
-pub inside-from-high : {a b x y : ℕ} → Inside a b x → Inside a x y → Inside a b y
+inside-from-high : {a b x y : ℕ} → Inside a b x → Inside a x y → Inside a b y
 inside-from-high f g = record { low = λ i. omega (arith, f .low i, g .low i); high = λ i. omega (arith, f .high i, g .high i) }
 
 module _ (below : ℕ → ℕ → ℕ → List ℕ → List ℕ → ℕ) (inside : (c a b : ℕ) (u v : List ℕ) → Inside a b (below c a b u v)) where

@@ -29,10 +29,7 @@ module _ (s : System) (k : ℕ) (ys : List ℕ) (a b : ℕ) where
   abbrev pub GreatestGives : List ℕ → List (List ℕ) → Found → Type 0
   GreatestGives u vs r = Gives r (fallFrom s k ys a b u vs) (fallQueries s k u vs)
 
-  -- all of it lies between the bounds' intersection and their union
-  pub level-inside : (u v : List ℕ) (r : Found) → LevelGives u v r → Inside a b (r .set)
-  level-inside u v r g = rw (g .value) (restricted-inside (s .lines) (sign s) (query s) k ys a b u v)
-
+  -- what a level gives lies between the bounds' intersection and their union
   pub least-inside : (us : List (List ℕ)) (v : List ℕ) (r : Found) → LeastGives us v r → Inside a b (r .set)
   least-inside us v r g = rw (g .value) (rise-inside _ (λ c. restricted-inside (s .lines) (sign s) (query s) k (c ∷ ys)) b v a us)
 

@@ -2,7 +2,7 @@
 -- what is left of the ceiling (Rounds.antt); the measure is what is left.
 -- Assumes nothing.
 use mathlib.Core.List.{List, _∷_}
-use mathlib.Core.Path.{_≡_, refl, sym, _∙_, ap}
+use mathlib.Core.Path.{_≡_, sym, _∙_, ap}
 use Prim.Native.Nat.{ℕ, _-_, _<_}
 use native.Mathlib.Nat.{le-refl}
 use native.Mathlib.Omega.{arith}
@@ -56,7 +56,7 @@ outcome : (c : tie.After-step-to Inv-loop μ-loop) →
 outcome c ys d =
     let z = c .before .before .before .before .before .before .args in
     let l = c .before .before .before .loop in
-    one-query (l .rest) _ (c .before .before .loop-test .taken)
+    one-query (l .rest) _ (λ e. omega (arith, c .before .before .loop-test .taken))
     ∙ ap (λ (x : ℕ). Settled x (l .rest - 1))
     (sym (c .step-to .ensures ∙ decided-all (systemIn (now (z .file)) (z .m)) (l .x ∷ ys) (z .a) (z .b) _ (c .before .decide .ensures ys d)))
 

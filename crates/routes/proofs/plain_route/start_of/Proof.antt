@@ -1,6 +1,6 @@
 -- `routes::plain_route::start_of` meets its contract: a greatest level starts from the upper bound, a least one from the lower.
 -- Assumes nothing.
-use mathlib.Core.Path.{_≡_, sym, _∙_}
+use mathlib.Core.Path.{sym, _∙_}
 use borrow.Author.Needs.{needs}
 use Rattle.routes.proofs.plain_route.start_of.Statement.{statement}
 use Rattle.routes.proofs.plain_route.start_of.Tie as tie
