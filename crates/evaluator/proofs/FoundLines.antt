@@ -1,16 +1,16 @@
 -- Lines gone over from the lowest member on: what has been found so far, with one line more.
 -- Assumes nothing.
-use mathlib.Core.Bool.{Bool, true, false, not, _&&_, _||_}
+use mathlib.Core.Bool.{Bool, true, false, cond, not, _&&_, _||_}
 use mathlib.Core.Path.{_≡_, refl, sym, _∙_, ap}
-use Prim.Native.Nat.{ℕ, _-_, _^_, _≤_}
+use Prim.Native.Nat.{ℕ, _-_, _≤_}
 use native.Mathlib.Omega.{arith}
 use native.Mathlib.Nat.{le-trans}
 use borrow.Author.Tests.{eqb-true, eqb-false, eq-eqb}
-use lib.Bits.{and-le-l}
+use lib.Bits.{bitXor, and-le-l}
 use lib.Dec.{eqb}
 use Rattle.sets.specs.Set.{isMember, union, intersection}
 use Rattle.sets.proofs.Order.{digit}
-use Rattle.sets.proofs.Membership.{Lowest, member-join, member-power, member-empty}
+use Rattle.sets.proofs.Membership.{Lowest, member-join, member-differ, member-empty}
 
 -- of some lines those found so far, the lines in `rest` being left
 module _ (p : ℕ → Bool) (lines : ℕ) where
@@ -33,6 +33,12 @@ module _ (p : ℕ → Bool) (lines : ℕ) where
     abbrev next : ℕ
     next = intersection rest (rest - 1)
 
+    gone : isMember next t ≡ false
+    gone = ap (λ (d : ℕ). eqb d 1) (l .taken)
+
+    kept : (i : ℕ) → (i ≡ t → ⊥) → isMember next i ≡ isMember rest i
+    kept i ne = ap (λ (d : ℕ). eqb d 1) (l .kept i ne)
+
     -- a line that is found, or not, is left out of the rest
     one-more : (found′ : ℕ) → isMember found′ t ≡ p t → ((i : ℕ) → (i ≡ t → ⊥) → isMember found′ i ≡ isMember found i) → Found next found′
     one-more found′ e same = record {
@@ -41,12 +47,6 @@ module _ (p : ℕ → Bool) (lines : ℕ) where
       is = λ i. at i (eqb i t) refl;
     }
       where
-        gone : isMember next t ≡ false
-        gone = ap (λ (d : ℕ). eqb d 1) (l .taken)
-
-        kept : (i : ℕ) → (i ≡ t → ⊥) → isMember next i ≡ isMember rest i
-        kept i ne = ap (λ (d : ℕ). eqb d 1) (l .kept i ne)
-
         was-in : isMember lines t ≡ true
         was-in = f .left t (eq-eqb (digit rest t) 1 (l .is-in))
 
@@ -65,15 +65,16 @@ module _ (p : ℕ → Bool) (lines : ℕ) where
         never true = refl
         never false = refl
 
-    pub found-more : p t ≡ true → Found next (union found (2 ^ t))
-    found-more e = one-more (union found (2 ^ t))
-        (member-join found (2 ^ t) t ∙ rw (unfound, member-power t t, eq-eqb t t refl) (sym e))
-        (λ i ne. member-join found (2 ^ t) i ∙ rw (member-power t i) (other i (eqb i t) refl ne (isMember found i)))
+    -- the line itself is what the rest has and the others do not
+    pub found-more : p t ≡ true → Found next (union found (bitXor rest next))
+    found-more e = one-more (union found (bitXor rest next))
+        (member-join found (bitXor rest next) t ∙ rw (unfound, member-differ rest next t, eq-eqb (digit rest t) 1 (l .is-in), gone) (sym e))
+        (λ i ne. member-join found (bitXor rest next) i ∙ rw (member-differ rest next i, kept i ne) (other (isMember found i) (isMember rest i)))
       where
-        other : (i : ℕ) (s : Bool) → eqb i t ≡ s → (i ≡ t → ⊥) → (r : Bool) → (r || eqb i t) ≡ r
-        other i true q ne r = absurd (ne (eqb-true i t q))
-        other i false q ne true = refl
-        other i false q ne false = q
+        other : (r s : Bool) → (r || cond s (not s) s) ≡ r
+        other true s = refl
+        other false true = refl
+        other false false = refl
 
     pub found-same : p t ≡ false → Found next found
     found-same e = one-more found (unfound ∙ sym e) (λ i ne. refl)

@@ -18,20 +18,21 @@ pub struct Pending {
     pub undecided: u64,
 }
 
-// The set of the lines that are set without operands: those of which all operands must be set.
+// The set of the lines that are set without operands: those of which all operands must be set. The last line is the highest digit.
 fn initial_set(file: &[u8], m: Model) -> u64
     requires { ⌜ Held (now file) m ⌝ }
     ensures { λ r. ⌜ r ≡ initialSet (systemIn (now (file .entry)) m) ⌝ }
 {
-    let n = m.lines;
     let kinds_at = m.kinds_at();
     let mut set: u64 = 0;
-    let mut i = 0;
-    while i < n {
+    let mut i = m.lines;
+    while i != 0 {
+        i -= 1;
         if file[kinds_at + i] != 0 {
-            set = set | (1u64 << i);
+            set = 2 * set + 1;
+        } else {
+            set = 2 * set;
         }
-        i += 1;
     }
     set
 }
@@ -48,10 +49,11 @@ fn selecting(file: &[u8], m: Model, k: usize, lines: u64, x: u64) -> u64
     let mut found: u64 = 0;
     while rest != 0 {
         let i = u64::trailing_zeros(rest) as usize;
+        let others = rest & (rest - 1);
         if u64_at(file, at + line * i) & x != 0 {
-            found = found | (1u64 << i);
+            found = found | (rest ^ others);
         }
-        rest = rest & (rest - 1);
+        rest = others;
     }
     found
 }

@@ -86,7 +86,7 @@ query-monotone m xs ys p =
     set-rises (m .lines) (λ i. valueOf (getD (m .kinds) i 0) (operands (wordsOf m i) xs)) (λ i. valueOf (getD (m .kinds) i 0) (operands (wordsOf m i) ys))
     (λ i. value-rises (getD (m .kinds) i 0) (operands-rise (m .lines) (wordsOf m i) p))
 
-set-below : (n : ℕ) (p : ℕ → Bool) → setOf n p < 2 ^ n
+pub set-below : (n : ℕ) (p : ℕ → Bool) → setOf n p < 2 ^ n
 unfolding setOf
 set-below zero p = omega arith
 set-below (suc n) p = union-below (suc n) (setOf n p) (cond (p n) (2 ^ n) 0) (lt-trans (set-below n p) (pow-lt (omega arith))) (go (p n))

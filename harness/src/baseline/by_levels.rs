@@ -34,8 +34,11 @@ fn selecting(words: &[u8], line: usize, lines: u64, x: u64) -> u64 {
     let (mut rest, mut found) = (lines, 0);
     while rest != 0 {
         let i = rest.trailing_zeros() as usize;
-        found |= ((u64_at(words, line * i) & x != 0) as u64) << i;
-        rest &= rest - 1;
+        let others = rest & (rest - 1);
+        if u64_at(words, line * i) & x != 0 {
+            found |= rest ^ others;
+        }
+        rest = others;
     }
     found
 }

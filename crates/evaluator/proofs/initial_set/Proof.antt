@@ -1,47 +1,46 @@
--- `evaluator::initial_set` meets its contract. The loop's invariant: the set has those of the lines passed that are set without operands.
--- The measure is the lines left.
+-- `evaluator::initial_set` meets its contract. The loop's invariant: the digits of the set from line i on. The measure is the lines left.
 -- Assumes nothing.
+use mathlib.Core.Bool.{Bool, true, false, cond}
 use mathlib.Core.List.{List, []}
-use denote.Ref.{now}
-use mathlib.Core.Bool.{Bool, true, false}
 use mathlib.Core.Path.{_≡_, refl, sym, _∙_, ap}
-use mathlib.Core.Logic.{⊎-elim}
-use Prim.Native.Nat.{ℕ, zero, suc, _+_, _-_, _^_, _≤_}
+use Prim.Native.Nat.{ℕ, zero, suc, _+_, _-_, _*_, _/_, _^_, _≤_, _<_}
+use native.Mathlib.Nat.{div-one}
 use native.Mathlib.Omega.{arith}
 use lib.ListN.{getD}
-use Rattle.sets.specs.Set.{union}
+use denote.Ref.{now}
+use borrow.Author.Needs.{needs}
 use Rattle.model.specs.Query.{valueOf, setOf}
 use Rattle.evaluator.specs.ByLevels.{initialSet}
 use Rattle.evaluator.proofs.Places.{line-kind}
-use Rattle.evaluator.proofs.LineSets.{set-more, set-same, one-shifted, set-same-values}
-use borrow.Author.Needs.{needs}
+use Rattle.evaluator.proofs.LineSets.{set-same-values, digits-from, digits-fit, digits-none}
 use Rattle.evaluator.proofs.initial_set.Statement.{statement}
 use Rattle.evaluator.proofs.initial_set.Tie as tie
 
--- the lines passed that are set without operands, by the bytes of their kinds
-abbrev passed : List ℕ → ℕ → ℕ → Bool
-passed file at i = valueOf (getD file (at + i) 0) []
+-- whether line i is set without operands, by the byte of its kind
+abbrev isAll : List ℕ → ℕ → ℕ → Bool
+isAll file at i = valueOf (getD file (at + i) 0) []
 
--- a line's value without operands, by its kind
-is-any : (kind : ℕ) → kind ≡ 0 → valueOf kind [] ≡ false
-is-any kind e = rw e
+any-unset : (kind : ℕ) → kind ≡ 0 → valueOf kind [] ≡ false
+any-unset kind e = rw e
 
-is-all : (kind : ℕ) → (kind ≡ 0 → ⊥) → valueOf kind [] ≡ true
-is-all zero ne = absurd (ne refl)
-is-all (suc k) ne = refl
+all-set : (kind : ℕ) → (kind ≡ 0 → ⊥) → valueOf kind [] ≡ true
+all-set zero ne = absurd (ne refl)
+all-set (suc k) ne = refl
 
 abbrev Inv-loop : tie.InvT-loop
-Inv-loop file n kinds-at set₀ i₀ set i = (i ≤ n) × (set ≡ setOf i (passed file kinds-at))
+Inv-loop file kinds-at set₀ i₀ set i = (i ≤ i₀) × (set ≡ setOf i₀ (isAll file kinds-at) / 2 ^ i)
 
 abbrev μ-loop : tie.MeasureT-loop
-μ-loop file n kinds-at set₀ i₀ set i = n - i
+μ-loop file kinds-at set₀ i₀ set i = i
 
 kinds-at-requires : tie.Need-kinds-at-requires Inv-loop μ-loop
 kinds-at-requires c κs = search needs
 
 loop-holds : tie.Need-loop-holds Inv-loop μ-loop
-unfolding setOf
-loop-holds c = (omega arith, refl)
+loop-holds c = (omega arith, sym (digits-none _ _))
+
+sub-i : tie.Need-sub-i Inv-loop μ-loop
+sub-i c = search needs
 
 add-if1 : tie.Need-add-if1 Inv-loop μ-loop
 add-if1 c = search needs
@@ -49,37 +48,66 @@ add-if1 c = search needs
 shared-slice-read-if1 : tie.Need-shared-slice-read-if1 Inv-loop μ-loop
 shared-slice-read-if1 c = search needs
 
-shl-set : tie.Need-shl-set Inv-loop μ-loop
-shl-set c = search needs
+-- one line's digit more, and that it fits
+record More (set n i : ℕ) (p : ℕ → Bool) (digit : ℕ) : Type 0 where
+  is : 2 * set + digit ≡ setOf n p / 2 ^ (i - 1)
+  fits : 2 * set + digit < 2 ^ 64
 
-add-i : tie.Need-add-i Inv-loop μ-loop
-add-i c = search needs
+more : (set n i : ℕ) (p : ℕ → Bool) (t : Bool) → n ≤ 64 → (i ≡ 0 → ⊥) → i ≤ n → set ≡ setOf n p / 2 ^ i → p (i - 1) ≡ t → More set n i p (cond t 1 0)
+more set n i p t few some within e v =
+    let next : i ≡ suc (i - 1) = omega arith in
+    let is : 2 * set + cond t 1 0 ≡ setOf n p / 2 ^ (i - 1) =
+    ap (λ (x : ℕ). 2 * x + cond t 1 0) (e ∙ ap (λ (j : ℕ). setOf n p / 2 ^ j) next) ∙ sym (digits-from n p (i - 1) t (omega arith) v) in
+    record { is = is; fits = rw is (digits-fit n p (i - 1) few) }
+
+all-more : (c : tie.Then1 Inv-loop μ-loop) →
+    let z = c .before .before .before .before .before .before .args in
+    let l = c .before .before .before .loop in
+    More (l .set) (z .m .lines) (l .i) (isAll (now (z .file)) (c .before .before .before .before .kinds-at .result)) 1
+all-more c =
+    let start = c .before .before .before .before .before .before in
+    let l = c .before .before .before .loop in
+    more (l .set) (start .args .m .lines) (l .i) _ true (start .pre .few-lines) (c .before .before .loop-test .taken) (l .inv .0) (l .inv .1) (all-set _ (c .if1 .taken))
+
+any-more : (c : tie.Else1 Inv-loop μ-loop) →
+    let z = c .before .before .before .before .before .before .args in
+    let l = c .before .before .before .loop in
+    More (l .set) (z .m .lines) (l .i) (isAll (now (z .file)) (c .before .before .before .before .kinds-at .result)) 0
+any-more c =
+    let start = c .before .before .before .before .before .before in
+    let l = c .before .before .before .loop in
+    more (l .set) (start .args .m .lines) (l .i) _ false (start .pre .few-lines) (c .before .before .loop-test .taken) (l .inv .0) (l .inv .1) (any-unset _ (c .if1 .left))
+
+mul-set : tie.Need-mul-set Inv-loop μ-loop
+mul-set c = omega (arith, all-more c .fits)
+
+add-set : tie.Need-add-set Inv-loop μ-loop
+add-set c = omega (arith, all-more c .fits)
 
 loop-less : tie.Need-loop-less Inv-loop μ-loop
 loop-less c = search needs
 
 loop-again : tie.Need-loop-again Inv-loop μ-loop
-loop-again c =
-    let l = c .before .before .before .loop in
-    let start = c .before .before .before .before .before .before in
-    let p = passed (now (start .args .file)) (c .before .before .before .before .kinds-at .result) in (
-      omega arith,
-      ⊎-elim
-          (λ w. w .1 ∙ ap (union (l .set)) (one-shifted (l .i) (omega (arith, start .pre))) ∙ ap (λ (s : ℕ). union s (2 ^ l .i)) (l .inv .1) ∙ set-more p (l .i) (is-all _ (w .0 .taken)))
-          (λ w. w .1 ∙ l .inv .1 ∙ set-same p (l .i) (is-any _ (w .0 .left)))
-          (c .if1 .came),
-    )
+loop-again c = (omega (arith, c .before .before .before .loop .inv .0), all-more c .is)
+
+mul-set-2 : tie.Need-mul-set-2 Inv-loop μ-loop
+mul-set-2 c = omega (arith, any-more c .fits)
+
+loop-less-2 : tie.Need-loop-less-2 Inv-loop μ-loop
+loop-less-2 c = search needs
+
+loop-again-2 : tie.Need-loop-again-2 Inv-loop μ-loop
+loop-again-2 c = (omega (arith, c .before .before .before .loop .inv .0), omega (arith, any-more c .is))
 
 returns : tie.Need-returns Inv-loop μ-loop
 unfolding initialSet
 returns c =
-    let start = c .before .before .before .before in
-    let z = start .args in
+    let z = c .before .before .before .before .args in
+    let l = c .before .loop in
     let at = c .before .before .kinds-at .ensures in
-    let end : c .before .loop .i ≡ z .m .lines = omega arith in
-    c .before .loop .inv .1
-    ∙ ap (λ (i : ℕ). setOf i (passed (now (z .file)) (c .before .before .kinds-at .result))) end
-    ∙ set-same-values (z .m .lines) _ _ (λ i l. ap (λ (k : ℕ). valueOf k []) (ap (λ (y : ℕ). getD (now (z .file)) (y + i) 0) at ∙ sym (line-kind (z .m .lines) (z .m .levels) (now (z .file)) i l)))
+    let end : l .i ≡ 0 = c .loop-test .left in
+    l .inv .1 ∙ rw end (div-one _)
+    ∙ set-same-values (z .m .lines) _ _ (λ i h. ap (λ (k : ℕ). valueOf k []) (ap (λ (y : ℕ). getD (now (z .file)) (y + i) 0) at ∙ sym (line-kind (z .m .lines) (z .m .levels) (now (z .file)) i h)))
 
 pub initial-set-spec : {M : Type 1} → statement M
 initial-set-spec =
@@ -89,10 +117,14 @@ initial-set-spec =
     μ-loop
     kinds-at-requires
     loop-holds
+    sub-i
     add-if1
     shared-slice-read-if1
-    shl-set
-    add-i
+    mul-set
+    add-set
     loop-less
     loop-again
+    mul-set-2
+    loop-less-2
+    loop-again-2
     returns)

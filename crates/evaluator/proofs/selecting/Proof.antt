@@ -1,11 +1,10 @@
--- `evaluator::selecting` selects its contract. The loop's invariant: those of the lines passed are found that select a line of x.
+-- `evaluator::selecting` meets its contract. The loop's invariant: those of the lines passed are found that select a line of x.
 -- The measure is the set of the lines left.
 -- Assumes nothing.
 use denote.Ref.{now}
 use mathlib.Core.Bool.{Bool, true, false, not, _&&_}
 use mathlib.Core.List.{List}
 use mathlib.Core.Path.{_≡_, refl, sym, _∙_, ap}
-use mathlib.Core.Logic.{⊎-elim}
 use Prim.Native.Nat.{ℕ, _+_, _-_, _*_, _^_, _≤_, _<_}
 use native.Mathlib.Omega.{arith}
 use native.Mathlib.Nat.{mul-comm, mul-assoc, lt-of-le-of-lt, lt-of-lt-of-le}
@@ -25,7 +24,6 @@ use Rattle.evaluator.specs.ByLevels.{selects}
 use Rattle.model.specs.File.{numberAt, wordsAt, sections}
 use Rattle.evaluator.proofs.FoundLines.{Found, found-none, found-all, found-more, found-same}
 use Rattle.evaluator.proofs.Places.{word-place}
-use Rattle.evaluator.proofs.LineSets.{one-shifted}
 use Rattle.evaluator.proofs.Masks.{any-selected}
 use Rattle.model.proofs.Sizes.{line-fits}
 use Rattle.evaluator.proofs.selecting.Statement.{statement}
@@ -64,38 +62,31 @@ mul-line c = search needs
 loop-holds : tie.Need-loop-holds Inv-loop μ-loop
 loop-holds c = found-none _ _
 
--- the line that is looked at, in the loop: the lowest of the rest, and the eight bytes of its word
-record Looked (n d k words file at line rest t : ℕ) : Type 0 where
+-- the line that is looked at: the lowest of the rest, and there is room for the eight bytes of its word
+record Looked (file at line rest t : ℕ) : Type 0 where
   low : Lowest 64 rest t
-  short : t < 64
-  one : t < n
-  start : line * t ≡ 8 * (t * d)
   room : at + line * t + 8 ≤ file
 
 looked : (c : tie.In-loop Inv-loop μ-loop) →
     let z = c .before .before .before .before .before .args in
-    Looked (z .m .lines) (z .m .levels) (z .k) (c .before .before .before .words-at .result) (length (now (z .file)))
-    (c .before .before .before .words-at .result + 8 * z .k) (8 * z .m .levels) (c .before .loop .rest) (trailingZeros 64 (c .before .loop .rest))
+    let rest = c .before .loop .rest in
+    Looked (length (now (z .file))) (c .before .before .before .words-at .result + 8 * z .k) (8 * z .m .levels) rest (trailingZeros 64 rest)
 looked c =
     let start = c .before .before .before .before .before in
     let z = start .args in
     let rest = c .before .loop .rest in
-    let few : rest ≤ z .lines = c .before .loop .inv .few in
-    let below : rest < 2 ^ z .m .lines = lt-of-le-of-lt few (start .pre .1 .1) in
     let t = trailingZeros 64 rest in
-    let l : Lowest 64 rest t = lowest 64 rest (lt-of-lt-of-le below (pow-mono (start .pre .0 .few-lines))) (c .loop-test .taken) in
-    let one : t < z .m .lines = member-below (z .m .lines) rest t below (eq-eqb (digit rest t) 1 (l .is-in)) in
+    let below : rest < 2 ^ z .m .lines = lt-of-le-of-lt (c .before .loop .inv .few) (start .pre .1 .1) in
+    let low : Lowest 64 rest t = lowest 64 rest (lt-of-lt-of-le below (pow-mono (start .pre .0 .few-lines))) (c .loop-test .taken) in
+    let one : t < z .m .lines = member-below (z .m .lines) rest t below (eq-eqb (digit rest t) 1 (low .is-in)) in
     let begin : 8 * z .m .levels * t ≡ 8 * (t * z .m .levels) = mul-assoc 8 (z .m .levels) t ∙ ap (λ (y : ℕ). 8 * y) (mul-comm (z .m .levels) t) in
-    record {
-      low = l;
-      short = l .low;
-      one = one;
-      start = begin;
-      room = omega (arith, start .pre, c .before .before .before .words-at .ensures, line-fits (z .m .levels) one);
-    }
+    record { low = low; room = omega (arith, start .pre, c .before .before .before .words-at .ensures, line-fits (z .m .levels) one) }
 
 cast-i : tie.Need-cast-i Inv-loop μ-loop
-cast-i c = omega (arith, looked c .short)
+cast-i c = omega (arith, looked c .low .low)
+
+sub-others : tie.Need-sub-others Inv-loop μ-loop
+sub-others c = search needs
 
 mul-u64-at : tie.Need-mul-u64-at Inv-loop μ-loop
 mul-u64-at c = omega (arith, looked c .room, c .before .before .before .before .before .good)
@@ -105,18 +96,6 @@ add-u64-at c = omega (arith, looked c .room, c .before .before .before .before .
 
 u64-at-requires : tie.Need-u64-at-requires Inv-loop μ-loop
 u64-at-requires c κs = looked c .room
-
-shl-found : tie.Need-shl-found Inv-loop μ-loop
-shl-found c = looked (c .before .before) .short
-
-sub-rest : tie.Need-sub-rest Inv-loop μ-loop
-sub-rest c = search needs
-
-loop-less : tie.Need-loop-less Inv-loop μ-loop
-loop-less c =
-    let rest = c .before .before .before .loop .rest in
-    let ne : rest ≡ 0 → ⊥ = c .before .before .loop-test .taken in
-    omega (arith, and-le-r rest (rest - 1))
 
 -- what the test finds is whether the line has such an operand
 tested : (c : tie.After-u64-at Inv-loop μ-loop) →
@@ -128,15 +107,24 @@ tested c =
     ap (λ (w : ℕ). any (selected 64 w (start .args .x))) (sym (c .u64-at .ensures))
     ∙ any-selected (c .u64-at .result) (start .args .x) (omega arith) (omega arith)
 
+-- the others are fewer
+fewer : (c : tie.In-loop Inv-loop μ-loop) → intersection (c .before .loop .rest) (c .before .loop .rest - 1) < c .before .loop .rest
+fewer c =
+    let rest = c .before .loop .rest in
+    let ne : rest ≡ 0 → ⊥ = c .loop-test .taken in
+    omega (arith, and-le-r rest (rest - 1))
+
+loop-less : tie.Need-loop-less Inv-loop μ-loop
+loop-less c = fewer (c .before .before)
+
 loop-again : tie.Need-loop-again Inv-loop μ-loop
-loop-again c =
-    let l = looked (c .before .before) in
-    let f = c .before .before .before .loop .inv in
-    let e = tested (c .before) in
-    ⊎-elim
-    (λ w. rw (w .1, one-shifted (trailingZeros 64 (c .before .before .before .loop .rest)) (l .short)) (found-more _ _ (l .low) f (e ∙ rw (ne-eqb _ 0 (w .0 .taken)))))
-    (λ w. rw (w .1) (found-same _ _ (l .low) f (e ∙ rw (eq-eqb _ 0 (w .0 .left)))))
-    (c .if1 .came)
+loop-again c = found-more _ _ (looked (c .before .before) .low) (c .before .before .before .loop .inv) (tested (c .before) ∙ rw (ne-eqb _ 0 (c .if1 .taken)))
+
+loop-less-2 : tie.Need-loop-less-2 Inv-loop μ-loop
+loop-less-2 c = fewer (c .before .before)
+
+loop-again-2 : tie.Need-loop-again-2 Inv-loop μ-loop
+loop-again-2 c = found-same _ _ (looked (c .before .before) .low) (c .before .before .before .loop .inv) (tested (c .before) ∙ rw (eq-eqb _ 0 (c .if1 .left)))
 
 returns : tie.Need-returns Inv-loop μ-loop
 returns c =
@@ -159,11 +147,12 @@ selecting-spec =
     mul-line
     loop-holds
     cast-i
+    sub-others
     mul-u64-at
     add-u64-at
     u64-at-requires
-    shl-found
-    sub-rest
     loop-less
     loop-again
+    loop-less-2
+    loop-again-2
     returns)
