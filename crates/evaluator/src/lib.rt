@@ -49,6 +49,7 @@ fn selecting(file: &[u8], m: Model, k: usize, lines: u64, x: u64) -> u64
     let mut found: u64 = 0;
     while rest != 0 {
         let i = u64::trailing_zeros(rest) as usize;
+        // The lines after the lowest; `rest ^ others` is the lowest alone.
         let others = rest & (rest - 1);
         if u64_at(file, at + line * i) & x != 0 {
             found = found | (rest ^ others);

@@ -1,4 +1,3 @@
-pub mod Places
 pub mod Inside
 pub mod Rounds
 pub mod OverChildren

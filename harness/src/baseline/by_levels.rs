@@ -94,35 +94,37 @@ fn innermost_greatest(m: Model, w: Pending, a: u64, b: u64, leaves: usize) -> Fo
     Found { set: high, count: leaves as u64 }
 }
 
-// ---- built-in trees: those that come later wait, the n of each a digit to the base 128 ----
+// ---- built-in trees: none is stored, a child is found by its place ----
 
-fn in_front(n: usize, waiting: u64) -> u64 {
-    let (mut left, mut all) = (n, waiting);
-    while left != 0 {
-        all = 128 * all + left as u64;
-        left /= 2;
+fn child_lines(n: usize, i: usize) -> usize {
+    let (mut lines, mut at) = (n, i);
+    loop {
+        let (first, second) = (lines / 2, (lines - 1) / 2);
+        if at == first {
+            return lines;
+        }
+        if at < first {
+            lines = first;
+        } else {
+            (lines, at) = (second, at - first - 1);
+        }
     }
-    all
 }
 
 fn built_least(m: Model, below: usize, w: Pending, a: u64, b: u64, p: usize, q: usize) -> Found {
-    let (mut low, mut count, mut waiting) = (a, 0, in_front(p, 0));
-    while waiting != 0 {
-        let n = (waiting % 128) as usize;
-        let child = built_level(m, below, w.decide(m, below, low, low, b), low, b, n, q);
+    let (mut low, mut count) = (a, 0);
+    for i in 0..p {
+        let child = built_level(m, below, w.decide(m, below, low, low, b), low, b, child_lines(p, i), q);
         (low, count) = (child.set, count + child.count);
-        waiting = in_front((n - 1) / 2, waiting / 128);
     }
     Found { set: low, count }
 }
 
 fn built_greatest(m: Model, below: usize, w: Pending, a: u64, b: u64, p: usize, q: usize) -> Found {
-    let (mut high, mut count, mut waiting) = (b, 0, in_front(q, 0));
-    while waiting != 0 {
-        let n = (waiting % 128) as usize;
-        let child = built_level(m, below, w.decide(m, below, high, a, high), a, high, p, n);
+    let (mut high, mut count) = (b, 0);
+    for i in 0..q {
+        let child = built_level(m, below, w.decide(m, below, high, a, high), a, high, p, child_lines(q, i));
         (high, count) = (child.set, count + child.count);
-        waiting = in_front((n - 1) / 2, waiting / 128);
     }
     Found { set: high, count }
 }
