@@ -1,5 +1,6 @@
 pub mod Places
 pub mod Masks
+pub mod Operands
 pub mod LineSets
 pub mod FoundLines
 pub mod Needs

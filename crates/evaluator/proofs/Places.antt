@@ -1,5 +1,6 @@
--- Where a line's kind and its word for a level stand in the file.
+-- Where a line's kind and its word for a level stand in the file, and so its value.
 -- Assumes nothing.
+use mathlib.Core.Bool.{Bool}
 use mathlib.Core.List.{List}
 use mathlib.Core.Path.{_≡_, sym, _∙_, ap}
 use Prim.Native.Nat.{ℕ, _+_, _*_, _<_}
@@ -7,8 +8,8 @@ use native.Mathlib.Nat.{mul-comm, mul-assoc}
 use native.Mathlib.Omega.{arith}
 use lib.ListN.{length, getD, drop}
 use lib.Seq.{drop-drop, getD-take, getD-drop}
-use Rattle.model.specs.Query.{wordsOf}
-use Rattle.model.specs.File.{numberAt, kindsAt, wordsAt, sections}
+use Rattle.model.specs.Query.{valueOf, operands, wordsOf}
+use Rattle.model.specs.File.{numberAt, kindsAt, wordsAt, wordsFrom, sections}
 use Rattle.model.proofs.Codec.{words-length}
 use Rattle.model.proofs.Lines.{word-at, words-of}
 
@@ -25,3 +26,11 @@ pub word-place : (n d : ℕ) (file : List ℕ) (i k at line : ℕ) → i < n →
 word-place n d file i k at line h l ea el =
     let place : wordsAt n d + 8 * (i * d) + 8 * k ≡ at + line * i = omega (arith, ap (λ (z : ℕ). z * i) el, mul-assoc 8 d i, mul-comm i d) in
     sym (rw (words-of n d file i h) (word-at d (drop (wordsAt n d + 8 * (i * d)) file) k l ∙ rw (drop-drop (8 * k) (wordsAt n d + 8 * (i * d)) file, place)))
+
+-- the value of a line of a file
+abbrev pub lineValue : ℕ → ℕ → List ℕ → List ℕ → ℕ → Bool
+lineValue n d file xs i = valueOf (getD (sections n d file .kinds) i 0) (operands (wordsOf (sections n d file) i) xs)
+
+pub line-value : (n d : ℕ) (file xs : List ℕ) (i : ℕ) → i < n
+    → valueOf (getD file (kindsAt d + i) 0) (operands (wordsFrom d (drop (wordsAt n d + 8 * (i * d)) file)) xs) ≡ lineValue n d file xs i
+line-value n d file xs i h = rw (line-kind n d file i h, words-of n d file i h)

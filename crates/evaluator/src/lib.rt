@@ -3,13 +3,15 @@
 ghost use mathlib.Core.Path.{_≡_};
 ghost use mathlib.Core.Bool.{_&&_};
 ghost use mathlib.Core.List.{List, [], _∷_};
-ghost use Prim.Native.Nat.{ℕ, suc, _≤_, _<_, _^_};
-ghost use lib.ListN.{length, take};
+ghost use Prim.Native.Nat.{ℕ, suc, _<_, _^_};
 ghost use Rattle.sets.specs.Set.{isMember, boundedStep};
-ghost use Rattle.model.specs.Query.{query};
 ghost use Rattle.evaluator.specs.ByLevels.{Held, Decided, systemIn, initialSet, selects};
 use model::Model;
 use model::u64_at;
+
+mod one_query;
+
+pub use one_query::evaluate;
 
 // What the arguments of the outer levels decide.
 pub struct Pending {
@@ -92,20 +94,4 @@ pub fn step_to(a: u64, b: u64, w: Pending) -> u64
     ensures { λ r. ⌜ r ≡ boundedStep a b (w .set) ⌝ }
 {
     a | (b & w.set)
-}
-
-// The query's set for a file of these counts, at the arguments in the first places of xs.
-pub fn evaluate(file: &[u8], m: Model, xs: &[u64]) -> u64
-    requires { ⌜ Held (now file) m ⌝ }
-    requires { ⌜ m .levels ≤ length (now xs) ⌝ }
-    ensures { λ r. ⌜ r ≡ query (systemIn (now (file .entry)) m) (take (m .levels) (now (xs .entry))) ⌝ }
-{
-    let all = sets::full_set(m.lines);
-    let mut w = begin(file, m);
-    let mut k = m.levels;
-    while k != 0 {
-        k -= 1;
-        w = decide(file, m, k, xs[k], 0, all, w);
-    }
-    step_to(0, all, w)
 }

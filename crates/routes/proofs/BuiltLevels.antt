@@ -15,10 +15,10 @@ use Rattle.trees.proofs.Built.{built-children-length, built-children-leaves, ch
 use Rattle.fixpoint.specs.Levels.{leastAmong, greatestAmong}
 use Rattle.model.specs.System.{System, sign}
 use Rattle.routes.specs.declared.step.Found.{Found}
-use Rattle.routes.specs.Parts.{LineCount, leastOf, greatestOf, riseFrom, riseQueries, fallFrom, fallQueries}
+use Rattle.routes.specs.Parts.{LineCount, leastOf, greatestOf, riseQueries, fallQueries}
 use Rattle.fixpoint.specs.Restricted.{sumOver}
 use Rattle.routes.proofs.ChildrenPassed.{passed-few}
-use Rattle.routes.proofs.Levels.{LevelGives, LeastGives, GreatestGives, fallingNumber, least-heights, greatest-heights, least-level, greatest-level}
+use Rattle.routes.proofs.Levels.{LevelGives, LeastGives, GreatestGives, fallingNumber, least-heights, greatest-heights, least-queries, greatest-queries, least-level, greatest-level}
 use Rattle.routes.proofs.QueryBound.{built-few}
 
 -- the children of S(n, h + 1), one by one
@@ -73,17 +73,13 @@ module _ (s : System) (k : ℕ) (ys : List ℕ) (a b p q : ℕ) where
 module _ (s : System) (k p q : ℕ) (few : k < 8) (y : LineCount p) (z : LineCount q) where
   pub least-few : sign s k ≡ false → riseQueries s k (builtChildren p (leastOf s k)) (built q (greatestOf s k)) ≤ 64 ^ 8
   least-few e =
-      let us = builtChildren p (leastOf s k) in
-      let v = built q (greatestOf s k) in
-      let all : LeastBuilt s k [] 0 0 p q (record { set = riseFrom s k [] 0 0 us v; count = riseQueries s k us v }) = record { value = refl; queries = refl } in
-      omega (arith, least-built s refl [] 0 0 p q _ e (omega (arith, y)) all .queries, built-few s (suc k) p q few y z)
+      let h = least-heights s refl e in
+      rw (least-queries s refl e, children-of-built p (y .0) (h .0), h .1) at (built-few s (suc k) p q few y z)
 
   pub greatest-few : sign s k ≡ true → fallQueries s k (built p (leastOf s k)) (builtChildren q (greatestOf s k)) ≤ 64 ^ 8
   greatest-few e =
-      let u = built p (leastOf s k) in
-      let vs = builtChildren q (greatestOf s k) in
-      let all : GreatestBuilt s k [] 0 0 p q (record { set = fallFrom s k [] 0 0 u vs; count = fallQueries s k u vs }) = record { value = refl; queries = refl } in
-      omega (arith, greatest-built s refl [] 0 0 p q _ e (omega (arith, z)) all .queries, built-few s (suc k) p q few y z)
+      let h = greatest-heights s refl e in
+      rw (greatest-queries s refl e, children-of-built q (z .0) (h .1), h .0) at (built-few s (suc k) p q few y z)
 
 -- The number that falls with each call is made of the levels left and of the leaves of the two trees (Levels.antt).
 module _ (s : System) (k p q : ℕ) where

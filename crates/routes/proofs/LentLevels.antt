@@ -15,9 +15,9 @@ use Rattle.fixpoint.specs.Levels.{leastAmong, greatestAmong}
 use Rattle.fixpoint.specs.Restricted.{sumOver}
 use Rattle.model.specs.System.{System, sign}
 use Rattle.routes.specs.declared.step.Found.{Found}
-use Rattle.routes.specs.Parts.{Lent, leastOf, greatestOf, riseFrom, riseQueries, fallFrom, fallQueries}
+use Rattle.routes.specs.Parts.{Lent, leastOf, greatestOf, riseQueries, fallQueries}
 use Rattle.routes.proofs.ChildrenPassed.{passed-few}
-use Rattle.routes.proofs.Levels.{LeastGives, GreatestGives, least-heights, greatest-heights, least-level, greatest-level}
+use Rattle.routes.proofs.Levels.{LeastGives, GreatestGives, least-heights, greatest-heights, least-queries, greatest-queries}
 use Rattle.routes.proofs.QueryBound.{lent-few}
 use Rattle.routes.proofs.FirstChild.{NoneBefore, restOf, rest-length, rest-after, rest-lent, front-lent, cut-none, cut-first, cut-child}
 
@@ -69,17 +69,13 @@ module _ (s : System) (k hu : ℕ) (u : List ℕ) (hv : ℕ) (v : List ℕ) (lu 
   least-few e eu ev =
       let h = least-heights s refl e in
       let eu′ : hu ≡ leastOf s (suc k) = eu ∙ sym (h .0) in
-      let all : LeastGives s k [] 0 0 (children (leastOf s (suc k)) u) v (record { set = riseFrom s k [] 0 0 (children (leastOf s (suc k)) u) v; count = riseQueries s k (children (leastOf s (suc k)) u) v }) =
-      record { value = refl; queries = refl } in
-      rw eu′ (omega (arith, least-level s refl [] 0 0 u v _ e all .queries, lent-few s (suc k) u v (rw eu′ at lu) (rw (ev ∙ sym (h .1)) at lv)))
+      rw eu′ (omega (arith, least-queries s refl e u v, lent-few s (suc k) u v (rw eu′ at lu) (rw (ev ∙ sym (h .1)) at lv)))
 
   pub greatest-few : sign s k ≡ true → hu ≡ leastOf s k → hv ≡ suc (greatestOf s k) → fallQueries s k u (children hv v) ≤ 64 ^ 8
   greatest-few e eu ev =
       let h = greatest-heights s refl e in
       let ev′ : hv ≡ greatestOf s (suc k) = ev ∙ sym (h .1) in
-      let all : GreatestGives s k [] 0 0 u (children (greatestOf s (suc k)) v) (record { set = fallFrom s k [] 0 0 u (children (greatestOf s (suc k)) v); count = fallQueries s k u (children (greatestOf s (suc k)) v) }) =
-      record { value = refl; queries = refl } in
-      rw ev′ (omega (arith, greatest-level s refl [] 0 0 u v _ e all .queries, lent-few s (suc k) u v (rw (eu ∙ sym (h .0)) at lu) (rw ev′ at lv)))
+      rw ev′ (omega (arith, greatest-queries s refl e u v, lent-few s (suc k) u v (rw (eu ∙ sym (h .0)) at lu) (rw ev′ at lv)))
 
   module _ (ys : List ℕ) (a b : ℕ) where
     -- with no level below, the children are leaves

@@ -58,6 +58,15 @@ module _ (s : System) {k j : ℕ} (next : k ≡ suc j) where
   pub greatest-heights : sign s j ≡ true → (leastOf s k ≡ leastOf s j) × (greatestOf s k ≡ suc (greatestOf s j))
   greatest-heights e = rw next (least-at-greatest (sign s) j e, greatest-at-greatest (sign s) j e)
 
+  -- the queries of one level more are those of the level
+  pub least-queries : sign s j ≡ false → (u v : List ℕ) → queriesFrom s k u v ≡ riseQueries s j (children (leastOf s k) u) v
+  unfolding restrictedQueries levelQueries
+  least-queries e u v = rw (next, e)
+
+  pub greatest-queries : sign s j ≡ true → (u v : List ℕ) → queriesFrom s k u v ≡ fallQueries s j u (children (greatestOf s k) v)
+  unfolding restrictedQueries levelQueries
+  greatest-queries e u v = rw (next, e)
+
   module _ (ys : List ℕ) (a b : ℕ) (u v : List ℕ) (r : Found) where
     pub least-level : sign s j ≡ false → LeastGives s j ys a b (children (leastOf s k) u) v r → LevelGives s k ys a b u v r
     unfolding restricted level restrictedQueries levelQueries

@@ -51,7 +51,7 @@ unfolding halvedChildren
 built-children-step n h =
     cc (enough (λ m. built m h) n (suc n / 2) (omega arith), enough (λ m. built m h) n (n / 2) (omega arith))
 
-pub built-children-halves : (n h : ℕ) → 0 < n → builtChildren n h ≡ builtChildren (n / 2) h ++ built n h ∷ builtChildren ((n - 1) / 2) h
+built-children-halves : (n h : ℕ) → 0 < n → builtChildren n h ≡ builtChildren (n / 2) h ++ built n h ∷ builtChildren ((n - 1) / 2) h
 built-children-halves zero h l = absurd (omega arith)
 built-children-halves (suc n) h l =
     let e : suc n - 1 ≡ n = omega arith in
