@@ -14,22 +14,22 @@ use Rattle.sets.proofs.Membership.{Lowest, member-join, member-differ, member-e
 
 -- of some lines those found so far, the lines in `rest` being left
 module _ (p : ℕ → Bool) (lines : ℕ) where
-  pub record Found (rest found : ℕ) : Type 0 where
+  pub record FoundSoFar (rest found : ℕ) : Type 0 where
     pub left : (i : ℕ) → isMember rest i ≡ true → isMember lines i ≡ true
     pub few : rest ≤ lines
     pub is : (i : ℕ) → isMember found i ≡ (isMember lines i && (not (isMember rest i) && p i))
 
-  pub found-none : Found lines 0
+  pub found-none : FoundSoFar lines 0
   found-none = record { left = λ i e. e; few = omega arith; is = λ i. member-empty i ∙ none (isMember lines i) (p i) }
     where
       none : (s t : Bool) → false ≡ (s && (not s && t))
       none true t = refl
       none false t = refl
 
-  pub found-all : (found : ℕ) → Found 0 found → (i : ℕ) → isMember found i ≡ (isMember lines i && p i)
+  pub found-all : (found : ℕ) → FoundSoFar 0 found → (i : ℕ) → isMember found i ≡ (isMember lines i && p i)
   found-all found f i = f .is i ∙ rw (member-empty i)
 
-  module _ {rest found t : ℕ} (l : Lowest 64 rest t) (f : Found rest found) where
+  module _ {rest found t : ℕ} (l : Lowest 64 rest t) (f : FoundSoFar rest found) where
     abbrev next : ℕ
     next = intersection rest (rest - 1)
 
@@ -40,7 +40,7 @@ module _ (p : ℕ → Bool) (lines : ℕ) where
     kept i ne = ap (λ (d : ℕ). eqb d 1) (l .kept i ne)
 
     -- a line that is found, or not, is left out of the rest
-    one-more : (found′ : ℕ) → isMember found′ t ≡ p t → ((i : ℕ) → (i ≡ t → ⊥) → isMember found′ i ≡ isMember found i) → Found next found′
+    one-more : (found′ : ℕ) → isMember found′ t ≡ p t → ((i : ℕ) → (i ≡ t → ⊥) → isMember found′ i ≡ isMember found i) → FoundSoFar next found′
     one-more found′ e same = record {
       left = λ i h. in-lines i (eqb i t) refl h;
       few = le-trans (and-le-l rest (rest - 1)) (f .few);
@@ -66,7 +66,7 @@ module _ (p : ℕ → Bool) (lines : ℕ) where
         never false = refl
 
     -- the line itself is what the rest has and the others do not
-    pub found-more : p t ≡ true → Found next (union found (bitXor rest next))
+    pub found-more : p t ≡ true → FoundSoFar next (union found (bitXor rest next))
     found-more e = one-more (union found (bitXor rest next))
         (member-join found (bitXor rest next) t ∙ rw (unfound, member-differ rest next t, eq-eqb (digit rest t) 1 (l .is-in), gone) (sym e))
         (λ i ne. member-join found (bitXor rest next) i ∙ rw (member-differ rest next i, kept i ne) (other (isMember found i) (isMember rest i)))
@@ -76,5 +76,5 @@ module _ (p : ℕ → Bool) (lines : ℕ) where
         other false true = refl
         other false false = refl
 
-    pub found-same : p t ≡ false → Found next found
+    pub found-same : p t ≡ false → FoundSoFar next found
     found-same e = one-more found (unfound ∙ sym e) (λ i ne. refl)

@@ -22,7 +22,7 @@ use Rattle.sets.proofs.Membership.{Lowest, lowest}
 use Rattle.model.specs.Query.{any, selected}
 use Rattle.evaluator.specs.ByLevels.{selects}
 use Rattle.model.specs.File.{numberAt, wordsAt, sections}
-use Rattle.evaluator.proofs.FoundLines.{Found, found-none, found-all, found-more, found-same}
+use Rattle.evaluator.proofs.FoundLines.{FoundSoFar, found-none, found-all, found-more, found-same}
 use Rattle.evaluator.proofs.Places.{word-place}
 use Rattle.evaluator.proofs.Masks.{any-selected}
 use Rattle.model.proofs.Sizes.{line-fits}
@@ -42,7 +42,7 @@ same-line n d file k lines x at line h l ea el i = go (isMember lines i) refl
     go false e = rw e
 
 abbrev Inv-loop : tie.InvT-loop
-Inv-loop file k lines x at line rest₀ found₀ rest found = Found (has file at line x) lines rest found
+Inv-loop file k lines x at line rest₀ found₀ rest found = FoundSoFar (has file at line x) lines rest found
 
 abbrev μ-loop : tie.MeasureT-loop
 μ-loop file k lines x at line rest₀ found₀ rest found = rest
