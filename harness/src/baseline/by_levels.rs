@@ -14,7 +14,7 @@ struct Pending {
 impl Pending {
     fn begin(m: Model) -> Pending {
         let kinds = &m.file[m.kinds_at()..m.words_at()];
-        let set = kinds.iter().enumerate().fold(0, |set, (i, &kind)| set | ((kind != 0) as u64) << i);
+        let set = kinds.iter().rev().fold(0, |set, &kind| 2 * set + (kind != 0) as u64);
         Pending { set, undecided: full_set(m.lines) }
     }
 
