@@ -15,11 +15,11 @@ use Rattle.sets.specs.Set.{isMember, full, union, intersection, boundedStep}
 use Rattle.sets.proofs.Order.{member-le}
 use Rattle.sets.proofs.Range.{member-above, intersection-below}
 use Rattle.sets.proofs.Membership.{member-meet, member-join, member-differ, member-full, same-members}
-use Rattle.model.specs.System.{System}
-use Rattle.model.specs.Query.{query, wordsOf}
+use Rattle.system.specs.System.{System}
+use Rattle.system.specs.Query.{query, wordsOf}
 use Rattle.evaluator.specs.ByLevels.{Decided, initialSet, selects, outerSet, openSet, isOpen}
 use Rattle.evaluator.specs.declared.Pending.{Pending}
-use Rattle.evaluator.proofs.LineSets.{member-set}
+use Rattle.system.proofs.LineSets.{member-set}
 use Rattle.evaluator.proofs.Needs.{left-out, decides, changed}
 use Rattle.evaluator.proofs.OuterLevels.{outer-none, outer-all, open-none, next-set}
 

@@ -12,7 +12,7 @@ use lib.Bits.{bitXor}
 use lib.Dec.{leb}
 use Rattle.sets.specs.Set.{isMember, full}
 use Rattle.sets.proofs.Membership.{member-differ, member-full}
-use Rattle.model.specs.Query.{any, all, valueOf, selected}
+use Rattle.system.specs.Query.{any, all, valueOf, selected}
 
 -- two Booleans that differ: a value that changes, or does not
 abbrev pub changed : Bool → Bool → Bool

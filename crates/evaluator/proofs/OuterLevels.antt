@@ -9,10 +9,10 @@ use lib.Dec.{ltb}
 use lib.ListN.{length, getD, drop}
 use lib.Seq.{drop-cons}
 use Rattle.sets.specs.Set.{isMember}
-use Rattle.model.specs.System.{System}
-use Rattle.model.specs.Query.{valueOf, selected, operands, wordsOf, query}
+use Rattle.system.specs.System.{System}
+use Rattle.system.specs.Query.{valueOf, selected, operands, wordsOf, query}
 use Rattle.evaluator.specs.ByLevels.{initialValue, initialSet, selects, outerValue, isOpen, outerSet, openSet}
-use Rattle.evaluator.proofs.LineSets.{set-same-values, member-set}
+use Rattle.system.proofs.LineSets.{set-same-values, member-set}
 use Rattle.evaluator.proofs.Needs.{changed, left-out, decides, one-level}
 
 -- the operands above level k are those of level k + 1 and those above it

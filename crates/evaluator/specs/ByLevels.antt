@@ -4,24 +4,12 @@
 use mathlib.Core.Bool.{Bool, true, false, Bool·beq}
 use mathlib.Core.List.{List, []}
 use mathlib.Core.Path.{_≡_}
-use Prim.Native.Nat.{ℕ, _^_, _<_, _≤_}
-use lib.ListN.{length, getD, drop}
+use Prim.Native.Nat.{ℕ, _^_, _<_}
+use lib.ListN.{getD, drop}
 use Rattle.sets.specs.Set.{isMember}
-use Rattle.model.specs.System.{System}
-use Rattle.model.specs.Query.{any, valueOf, selected, operands, wordsOf, setOf}
-use Rattle.model.specs.File.{fileLength, sections}
-use Rattle.model.specs.declared.layout.Model.{Model}
+use Rattle.system.specs.System.{System}
+use Rattle.system.specs.Query.{any, valueOf, selected, operands, wordsOf, setOf}
 use Rattle.evaluator.specs.declared.Pending.{Pending}
-
--- the counts are within the limits, and the file is long enough for them
-pub record Held (file : List ℕ) (m : Model) : Type 0 where
-  pub few-lines : m .lines ≤ 64
-  pub few-levels : m .levels ≤ 8
-  pub whole : fileLength (m .lines) (m .levels) ≤ length file
-
--- the system of a file
-abbrev pub systemIn : List ℕ → Model → System
-systemIn file m = sections (m .lines) (m .levels) file
 
 -- the value of line i without operands, by its kind, and the set of the lines that have it set
 abbrev pub initialValue : System → ℕ → Bool

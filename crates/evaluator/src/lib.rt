@@ -5,13 +5,10 @@ ghost use mathlib.Core.Bool.{_&&_};
 ghost use mathlib.Core.List.{List, [], _∷_};
 ghost use Prim.Native.Nat.{ℕ, suc, _<_, _^_};
 ghost use Rattle.sets.specs.Set.{isMember, boundedStep};
-ghost use Rattle.evaluator.specs.ByLevels.{Held, Decided, systemIn, initialSet, selects};
+ghost use Rattle.model.specs.Held.{Held, systemIn};
+ghost use Rattle.evaluator.specs.ByLevels.{Decided, initialSet, selects};
 use model::Model;
-use model::u64_at;
-
-mod one_query;
-
-pub use one_query::evaluate;
+use numbers::u64_at;
 
 // What the arguments of the outer levels decide.
 pub struct Pending {

@@ -1,13 +1,10 @@
-pub mod Little
 pub mod Sizes
-pub mod Below
-pub mod Codec
 pub mod Searches
 pub mod Lines
+pub mod Places
 pub mod Refusals
 pub mod Accepted
 pub mod RoundTrip
 pub mod Passed
-pub mod Monotone
 pub mod Outcome
 pub mod ReadBack

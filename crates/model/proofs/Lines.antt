@@ -1,28 +1,18 @@
--- The sections of a file: a word by its place, a run of words within a longer one, and so the words of a line; signs beside kinds.
+-- The sections of a file: the words of a line, searches over words by their places, signs beside kinds.
 -- Assumes nothing.
 use mathlib.Core.Bool.{Bool, _||_}
 use mathlib.Core.List.{List}
-use mathlib.Core.Path.{_≡_, refl, _∙_, ap}
-use Prim.Native.Nat.{ℕ, zero, suc, _+_, _*_, _<_}
-use native.Mathlib.Nat.{le-of-suc-le-suc}
-use native.Mathlib.Omega.{arith}
+use mathlib.Core.Path.{_≡_, _∙_, ap}
+use Prim.Native.Nat.{ℕ, _+_, _*_, _<_}
 use lib.ListN.{getD, take, drop}
 use lib.Seq.{take-add, drop-drop}
-use Rattle.model.specs.Query.{wordsOf}
-use Rattle.model.specs.File.{numberAt, signsAt, wordsAt, wordsFrom, sections}
+use Rattle.system.specs.Query.{wordsOf}
+use Rattle.numbers.specs.Numbers.{numberAt, wordsFrom}
+use Rattle.model.specs.File.{signsAt, wordsAt, sections}
 use Rattle.model.specs.Checks.{some, someBelow}
-use Rattle.model.proofs.Codec.{words-length, words-part}
+use Rattle.numbers.proofs.Codec.{words-length, words-part, word-at}
 use Rattle.model.proofs.Sizes.{line-fits}
 use Rattle.model.proofs.Searches.{some-index, some-append, below-same}
-
--- a word is the eight bytes at its place
-pub word-at : (k : ℕ) (bs : List ℕ) (i : ℕ) → i < k → getD (wordsFrom k bs) i 0 ≡ numberAt bs (8 * i) 8
-unfolding wordsFrom
-word-at zero bs i h = absurd (omega arith)
-word-at (suc k) bs zero h = refl
-word-at (suc k) bs (suc i) h =
-    let next : 8 + 8 * i ≡ 8 * suc i = omega arith in
-    word-at k (drop 8 bs) i (le-of-suc-le-suc h) ∙ rw (drop-drop (8 * i) 8 bs, next)
 
 pub words-of : (n d : ℕ) (file : List ℕ) (i : ℕ) → i < n
     → wordsOf (sections n d file) i ≡ wordsFrom d (drop (wordsAt n d + 8 * (i * d)) file)

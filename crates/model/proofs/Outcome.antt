@@ -7,14 +7,14 @@ use native.Mathlib.Omega.{arith}
 use lib.ListN.{length, drop}
 use Rattle.answers.specs.Check.{unless}
 use Rattle.answers.specs.declared.Refusal.{Refusal}
-use Rattle.model.specs.System.{System, systemOf}
+use Rattle.system.specs.System.{System, systemOf}
 use Rattle.model.specs.File.{fileLength, linesIn, levelsIn, sections, decode, encode}
 use Rattle.model.specs.Checks.{readNumber, writeNumber}
 use Rattle.model.specs.Says.{sized, made, readingAnswer, filled, ReadSays, WriteSays}
 use Rattle.model.specs.declared.layout.Model.{Model}
 use Rattle.model.specs.declared.layout.Reading.{Reading}
 use Rattle.model.specs.declared.layout.Reading.the-variants as reading
-use Rattle.model.specs.declared.writer.Written.the-variants as written
+use Rattle.model.specs.declared.layout.Written.the-variants as written
 use Rattle.model.proofs.Refusals.{AcceptedAs, RefusedAs, refused-answer}
 use Rattle.model.proofs.Accepted.{decoded}
 use Rattle.model.proofs.RoundTrip.{Sliced, encode-length}

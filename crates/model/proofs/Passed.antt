@@ -11,10 +11,10 @@ use lib.ListN.{length}
 use borrow.Author.Tests.{ltb-false, eqb-true, not-false, eq-eqb, le-ltb}
 use Rattle.answers.specs.Check.{Check, _if_}
 use Rattle.answers.proofs.Checks.{Passes, passes-both, passes-none, none-first, inside}
-use Rattle.model.specs.System.{System}
+use Rattle.system.specs.System.{System}
 use Rattle.model.specs.File.{fileLength, linesIn, levelsIn, decode, encode}
 use Rattle.model.specs.Checks.{countChecks, contentChecks, layoutChecks, headerChecks, fileChecks, fileNumber, sliceChecks, writeNumber}
-use Rattle.model.proofs.Below.{AllBelow}
+use Rattle.numbers.proofs.Below.{AllBelow}
 use Rattle.model.proofs.Accepted.{accepted, count-signs, count-kinds, count-words}
 use Rattle.model.proofs.RoundTrip.{Sliced, Fitting, Laid, encode-lines, encode-levels, encode-laid, decode-encode, encode-decode}
 

@@ -10,13 +10,13 @@ use borrow.Author.Tests.{le-ltb}
 use Rattle.answers.specs.Answer.{Answer}
 use Rattle.answers.specs.Check.{unless}
 use Rattle.answers.proofs.Checks.{passes-both, passes-none, none-first}
-use Rattle.model.specs.System.{System, systemOf}
+use Rattle.system.specs.System.{System, systemOf}
 use Rattle.model.specs.File.{fileLength, linesIn, levelsIn, decode, encode}
 use Rattle.model.specs.Checks.{fileChecks, fileNumber, roomChecks, readNumber, writeNumber}
 use Rattle.model.specs.Says.{sized, made, readingAnswer, writtenAnswer, filled, ReadSays, WriteSays}
 use Rattle.model.specs.declared.layout.Reading.{Reading}
-use Rattle.model.specs.declared.writer.Written.{Written}
-use Rattle.model.proofs.Below.{AllBelow}
+use Rattle.model.specs.declared.layout.Written.{Written}
+use Rattle.numbers.proofs.Below.{AllBelow}
 use Rattle.model.proofs.Refusals.{unless-number}
 use Rattle.model.proofs.RoundTrip.{encode-length, encode-lines, encode-levels}
 use Rattle.model.proofs.Accepted.{after-file}

@@ -7,10 +7,11 @@ use Prim.Native.Nat.{ℕ, _+_, _*_, _^_, _≤_}
 use native.Mathlib.Omega.{arith}
 use lib.ListN.{length, take, drop, length-append, length-drop}
 use lib.Seq.{take-add, take-all, take-at, drop-at, drop-drop}
-use Rattle.model.specs.System.{System}
-use Rattle.model.specs.File.{signsAt, kindsAt, wordsAt, fileLength, little, numberAt, linesIn, levelsIn, sections, decode, bytesOf, wordsFrom, wordBytes, headerBytes, encode}
-use Rattle.model.proofs.Below.{AllBelow, below-drop}
-use Rattle.model.proofs.Codec.{little-bytes, number-bytes, word-bytes-length, words-of-bytes, bytes-of-words}
+use Rattle.system.specs.System.{System}
+use Rattle.model.specs.File.{signsAt, kindsAt, wordsAt, fileLength, linesIn, levelsIn, sections, decode, headerBytes, encode}
+use Rattle.numbers.specs.Numbers.{little, numberAt, bytesOf, wordsFrom, wordBytes}
+use Rattle.numbers.proofs.Below.{AllBelow, below-drop}
+use Rattle.numbers.proofs.Codec.{little-bytes, number-bytes, word-bytes-length, words-of-bytes, bytes-of-words}
 
 -- a system whose slices are as long as its counts say
 pub record Sliced (m : System) : Type 0 where

@@ -7,9 +7,10 @@ use lib.Dec.{eqb, ltb}
 use lib.ListN.{length}
 use Rattle.answers.specs.Check.{Check, _if_, firstOf, outside}
 use Rattle.sets.specs.Set.{full, isWithin}
-use Rattle.model.specs.System.{System}
-use Rattle.model.specs.Query.{wordsOf}
-use Rattle.model.specs.File.{signsAt, kindsAt, wordsAt, fileLength, numberAt, linesIn, levelsIn, decode}
+use Rattle.system.specs.System.{System}
+use Rattle.system.specs.Query.{wordsOf}
+use Rattle.model.specs.File.{signsAt, kindsAt, wordsAt, fileLength, linesIn, levelsIn, decode}
+use Rattle.numbers.specs.Numbers.{numberAt}
 
 -- whether p holds of one of some numbers
 abbrev pub some : (ℕ → Bool) → List ℕ → Bool

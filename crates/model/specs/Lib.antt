@@ -1,5 +1,4 @@
-pub mod System
-pub mod Query
 pub mod File
 pub mod Checks
 pub mod Says
+pub mod Held

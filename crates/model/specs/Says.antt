@@ -6,13 +6,13 @@ use Prim.Native.Nat.{ℕ, zero, suc}
 use lib.ListN.{length, drop}
 use Rattle.answers.specs.Answer.{Answer, refusal, numberOf}
 use Rattle.answers.specs.Check.{unless}
-use Rattle.model.specs.System.{System}
+use Rattle.system.specs.System.{System}
 use Rattle.model.specs.File.{fileLength, linesIn, levelsIn, decode, encode}
 use Rattle.model.specs.Checks.{fileNumber, readNumber, writeNumber}
 use Rattle.model.specs.declared.layout.Reading.{Reading}
 use Rattle.model.specs.declared.layout.Reading.the-variants as reading
-use Rattle.model.specs.declared.writer.Written.{Written}
-use Rattle.model.specs.declared.writer.Written.the-variants as written
+use Rattle.model.specs.declared.layout.Written.{Written}
+use Rattle.model.specs.declared.layout.Written.the-variants as written
 
 -- accepted with the two counts
 abbrev pub sized : ℕ → ℕ → Answer

@@ -1,4 +1,4 @@
-// The model's type, its limits, and where the sections of its file begin.
+// The model's type, its limits, where the sections of its file begin, and what reading and writing answer.
 ghost use mathlib.Core.Path.{_≡_};
 ghost use Prim.Native.Nat.{_≤_};
 ghost use Rattle.answers.specs.Check.{firstOf, unless};
@@ -16,6 +16,12 @@ pub struct Model {
 // What checking and reading answer.
 pub enum Reading {
     Accepted(Model),
+    Refused(Refusal),
+}
+
+// What writing answers.
+pub enum Written {
+    Length(usize),
     Refused(Refusal),
 }
 
@@ -61,7 +67,7 @@ impl Model {
         Model::SIGNS_AT + self.levels + self.lines
     }
 
-    pub(crate) fn file_length(self) -> usize
+    pub fn file_length(self) -> usize
         requires { ⌜ (self .lines ≤ 64) × (self .levels ≤ 8) ⌝ }
         ensures { λ r. ⌜ r ≡ fileLength (self .lines) (self .levels) ⌝ }
     {

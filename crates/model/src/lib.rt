@@ -1,15 +1,9 @@
-// A model and its file: checking, reading and writing. Definitions: specs/.
-mod checker;
+// A model's type, the layout of its file, and what checking, reading and writing are to do. Definitions: specs/.
 mod layout;
-mod number;
-mod reader;
-mod writer;
+mod search;
 
-pub use checker::check;
 pub use layout::Model;
 pub use layout::Reading;
-pub use number::u64_at;
-pub use reader::read;
-pub use writer::Written;
-pub use writer::one_strays;
-pub use writer::write;
+pub use layout::Written;
+pub use search::one_strays;
+pub use search::over_one;

@@ -72,7 +72,7 @@ pub fn report(file: &[u8], out: &mut [u8]) -> usize
     if out.len() < REPORT_SIZE {
         return 0;
     }
-    let counts = model::check(file);
+    let counts = checker::check(file);
     let m = match counts {
         Reading::Accepted(m) => m,
         Reading::Refused(e) => return put_refused(out, 0, e),

@@ -5,7 +5,7 @@ use mathlib.Core.Path.{_≡_, sym}
 use Prim.Native.Nat.{ℕ, _+_}
 use lib.ListN.{replicate, replicate-append-replicate}
 use Rattle.sets.specs.Set.{boundedStep}
-use Rattle.model.specs.System.{System}
+use Rattle.system.specs.System.{System}
 use Rattle.evaluator.specs.ByLevels.{Decided}
 use Rattle.evaluator.specs.declared.Pending.{Pending}
 use Rattle.routes.specs.declared.step.Found.{Found}

@@ -14,7 +14,7 @@ use Rattle.trees.specs.Tree.{children}
 use Rattle.fixpoint.specs.Levels.{leastAmong, greatestAmong}
 use Rattle.fixpoint.specs.Restricted.{restricted, rise, fall, level}
 use Rattle.fixpoint.specs.Sets.{sets}
-use Rattle.model.specs.System.{System}
+use Rattle.system.specs.System.{System}
 use Rattle.evaluator.specs.ByLevels.{Decided}
 use Rattle.evaluator.specs.declared.Pending.{Pending}
 

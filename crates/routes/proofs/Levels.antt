@@ -9,8 +9,8 @@ use Rattle.sets.specs.Set.{boundedStep}
 use Rattle.trees.specs.Tree.{children, leaves}
 use Rattle.fixpoint.specs.Restricted.{restricted, level, restrictedQueries, levelQueries}
 use Rattle.fixpoint.proofs.Levels.{least-at-least, least-at-greatest, greatest-at-least, greatest-at-greatest}
-use Rattle.model.specs.System.{System, sign}
-use Rattle.model.specs.Query.{query}
+use Rattle.system.specs.System.{System, sign}
+use Rattle.system.specs.Query.{query}
 use Rattle.evaluator.specs.ByLevels.{Decided}
 use Rattle.evaluator.specs.declared.Pending.{Pending}
 use Rattle.evaluator.proofs.DecidedLines.{decided-all}

@@ -1,11 +1,7 @@
 pub mod Inside
-pub mod Rounds
 pub mod OverChildren
 pub mod Levels
 pub mod ChildrenPassed
 pub mod InnermostLevels
 pub mod QueryBound
-pub mod FirstChild
-pub mod BuiltLevels
-pub mod LentLevels
 pub mod Promises

@@ -14,9 +14,9 @@ use Rattle.fixpoint.specs.Lawful.{Range, Between}
 use Rattle.fixpoint.specs.Sets.{sets}
 use Rattle.fixpoint.proofs.Queries.{queries-product}
 use Rattle.fixpoint.proofs.Sets.{universal-nested, plain-nested, plain-enough, restricted-between, plain-between}
-use Rattle.model.specs.System.{System, sign}
-use Rattle.model.specs.Query.{query}
-use Rattle.model.proofs.Monotone.{query-monotone}
+use Rattle.system.specs.System.{System, sign}
+use Rattle.system.specs.Query.{query}
+use Rattle.system.proofs.Monotone.{query-monotone}
 use Rattle.routes.specs.Routes.{leastLevels, greatestLevels, builtLeast, builtGreatest, nestedSet, plainRun, restrictedSet, restrictedCount}
 use Rattle.routes.specs.Parts.{plainFrom}
 

@@ -11,7 +11,7 @@ use Rattle.trees.specs.Built.{built, leafCount}
 use Rattle.trees.proofs.Built.{leaf-none, leaf-zero, leaf-step, built-tree}
 use Rattle.fixpoint.proofs.Levels.{levels-sum}
 use Rattle.fixpoint.proofs.Queries.{queries-product}
-use Rattle.model.specs.System.{System, sign}
+use Rattle.system.specs.System.{System, sign}
 use Rattle.routes.specs.Parts.{leastOf, greatestOf, queriesFrom, LineCount, Lent}
 
 -- L(n, h) is at most 64 ^ h for n up to 64

@@ -1,21 +1,18 @@
 -- What the evaluators compute on the way: the definitions of Routes.antt with some levels left.
 -- Assumes nothing.
-use mathlib.Core.Bool.{cond}
 use mathlib.Core.List.{List, _∷_}
 use mathlib.Core.Path.{_≡_}
-use Prim.Native.Nat.{ℕ, _-_, _≤_}
-use lib.Dec.{eqb, leb}
+use Prim.Native.Nat.{ℕ, _≤_}
+use lib.Dec.{eqb}
 use lib.ListN.{length}
-use Rattle.model.specs.System.{System, sign}
-use Rattle.model.specs.Query.{query}
+use Rattle.system.specs.System.{System, sign}
+use Rattle.system.specs.Query.{query}
 use Rattle.trees.specs.Tree.{IsTree}
 use Rattle.fixpoint.specs.Levels.{leastAmong, greatestAmong}
 use Rattle.fixpoint.specs.Restricted.{restricted, restrictedQueries, rise, fall, sumOver}
 use Rattle.fixpoint.specs.Plain.{Run, plain}
 use Rattle.fixpoint.specs.Sets.{sets}
 use Rattle.routes.specs.declared.step.Found.{Found}
-use Rattle.routes.specs.declared.plain_route.Outcome.{Outcome}
-use Rattle.routes.specs.declared.plain_route.Outcome.the-variants.{Settled, Spent}
 
 -- the numbers of least and of greatest levels among the first k
 abbrev pub leastOf : System → ℕ → ℕ
@@ -34,10 +31,6 @@ restrictedFrom s k xs a b u v = restricted (sets (s .lines)) (sign s) (query s) 
 
 abbrev pub queriesFrom : System → ℕ → List ℕ → List ℕ → ℕ
 queriesFrom s k u v = restrictedQueries (sign s) k u v
-
--- a run under a ceiling: its set with what is left of the ceiling, if the queries do not exceed it
-abbrev pub under : ℕ → Run ℕ → Outcome
-under ceiling run = cond (leb (run .queries) ceiling) (Settled (run .value) (ceiling - run .queries)) Spent
 
 -- A least level over the children us of its tree, and a greatest level over the children vs of its own, with `below` levels below:
 -- its value and its queries (fixpoint's Restricted.antt).

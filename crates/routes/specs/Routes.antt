@@ -3,8 +3,8 @@
 use mathlib.Core.List.{List, []}
 use Prim.Native.Nat.{ℕ, suc}
 use lib.Dec.{eqb}
-use Rattle.model.specs.System.{System, sign}
-use Rattle.model.specs.Query.{query}
+use Rattle.system.specs.System.{System, sign}
+use Rattle.system.specs.Query.{query}
 use Rattle.trees.specs.Built.{built}
 use Rattle.fixpoint.specs.Levels.{leastAmong, greatestAmong}
 use Rattle.fixpoint.specs.Nested.{nested}

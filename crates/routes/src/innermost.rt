@@ -2,7 +2,8 @@
 ghost use mathlib.Core.List.{List, []};
 ghost use Prim.Native.Nat.{ℕ, _<_, _^_};
 ghost use lib.ListN.{replicate};
-ghost use Rattle.evaluator.specs.ByLevels.{Held, Decided, systemIn};
+ghost use Rattle.model.specs.Held.{Held, systemIn};
+ghost use Rattle.evaluator.specs.ByLevels.{Decided};
 ghost use Rattle.routes.specs.Parts.{Gives, riseFrom, riseQueries, fallFrom, fallQueries};
 use super::step::Found;
 use evaluator::Pending;
@@ -11,14 +12,7 @@ use evaluator::step_to;
 use model::Model;
 
 // A least innermost level over so many leaves, whatever the tree of the greatest levels.
-pub(crate) fn innermost_least(
-    file: &[u8],
-    m: Model,
-    w: Pending,
-    a: u64,
-    b: u64,
-    leaves: usize,
-) -> Found
+pub fn innermost_least(file: &[u8], m: Model, w: Pending, a: u64, b: u64, leaves: usize) -> Found
     requires { ⌜ Held (now file) m × (0 < m .levels) ⌝ }
     requires { ⌜ w .undecided < 2 ^ m .lines ⌝ }
     ensures { λ r. ⌜
@@ -39,14 +33,7 @@ pub(crate) fn innermost_least(
 }
 
 // A greatest innermost level likewise.
-pub(crate) fn innermost_greatest(
-    file: &[u8],
-    m: Model,
-    w: Pending,
-    a: u64,
-    b: u64,
-    leaves: usize,
-) -> Found
+pub fn innermost_greatest(file: &[u8], m: Model, w: Pending, a: u64, b: u64, leaves: usize) -> Found
     requires { ⌜ Held (now file) m × (0 < m .levels) ⌝ }
     requires { ⌜ w .undecided < 2 ^ m .lines ⌝ }
     ensures { λ r. ⌜

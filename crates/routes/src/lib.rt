@@ -1,13 +1,8 @@
-// The evaluators of the three routes, over a lent file and its two counts. Definitions: specs/.
-mod built_route;
+// What the routes share: a level's sign, and the innermost level of both tree routes. Definitions, of every route: specs/.
 mod innermost;
-mod lent_route;
-mod plain_route;
 mod step;
 
-pub use built_route::built_level;
-pub use lent_route::lent_level;
-pub use plain_route::Outcome;
-pub use plain_route::plain_level;
+pub use innermost::innermost_greatest;
+pub use innermost::innermost_least;
 pub use step::Found;
 pub use step::is_greatest;

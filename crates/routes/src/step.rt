@@ -1,8 +1,8 @@
 // What the routes share: a set with its queries, and a level's sign.
 ghost use mathlib.Core.Path.{_≡_};
 ghost use Prim.Native.Nat.{_<_};
-ghost use Rattle.model.specs.System.{sign};
-ghost use Rattle.evaluator.specs.ByLevels.{Held, systemIn};
+ghost use Rattle.system.specs.System.{sign};
+ghost use Rattle.model.specs.Held.{Held, systemIn};
 use model::Model;
 
 // A set, and the queries made on the way to it.

@@ -8,7 +8,7 @@ use Rattle.fixpoint.specs.Levels.{leastAmong, greatestAmong}
 use Rattle.fixpoint.specs.Nested.{nested, extreme}
 use Rattle.fixpoint.specs.Restricted.{restricted, level, rise, fall, sumOver, levelQueries, restrictedQueries}
 use Rattle.fixpoint.specs.Plain.{thenRounds, settle, plain}
-use Rattle.model.specs.Query.{selected, operands, setOf, query}
+use Rattle.system.specs.Query.{selected, operands, setOf, query}
 use Rattle.samples.specs.Table.{table, Holds}
 
 pub samples-hold : Holds table

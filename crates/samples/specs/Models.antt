@@ -2,7 +2,7 @@
 -- Assumes nothing.
 use mathlib.Core.List.{List, [], _∷_}
 use Prim.Native.Nat.{ℕ}
-use Rattle.model.specs.System.{System}
+use Rattle.system.specs.System.{System}
 
 -- line 0 is all of (level 1, line 1); line 1 is any of (level 2, line 0)
 abbrev pub twoLines : List ℕ → System

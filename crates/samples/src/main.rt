@@ -97,12 +97,12 @@ fn show_reading(name: &[u8], r: Reading) {
 // A file of 64 lines and 8 levels, then with 65 lines in it, then with 9 levels too.
 fn show_sizes() {
     let mut file = [0u8; 4184];
-    model::write(64, 8, &[0u8; 8], &[0u8; 64], &[1u64; 512], &mut file);
-    show_reading(b"64 lines, 8 levels: ", model::check(&file));
+    writer::write(64, 8, &[0u8; 8], &[0u8; 64], &[1u64; 512], &mut file);
+    show_reading(b"64 lines, 8 levels: ", checker::check(&file));
     file[0] = 65;
-    show_reading(b"65 lines: ", model::check(&file));
+    show_reading(b"65 lines: ", checker::check(&file));
     file[2] = 9;
-    show_reading(b"65 lines, 9 levels: ", model::check(&file));
+    show_reading(b"65 lines, 9 levels: ", checker::check(&file));
 }
 
 fn main() {
@@ -117,8 +117,8 @@ fn main() {
         solver::solve_built(&P, 1, 2),
     );
     show_sizes();
-    show_reading(b"51 bytes of P: ", model::check(&P[..51]));
-    show_reading(b"15 bytes of P: ", model::check(&P[..15]));
+    show_reading(b"51 bytes of P: ", checker::check(&P[..51]));
+    show_reading(b"15 bytes of P: ", checker::check(&P[..15]));
     let gaps = [1u8; 1024];
     show_judged(
         b"P, 1023 gaps: ",

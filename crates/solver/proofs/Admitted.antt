@@ -15,7 +15,7 @@ use Rattle.sets.proofs.Range.{full-below}
 use Rattle.fixpoint.specs.Lawful.{Range}
 use Rattle.fixpoint.specs.Sets.{sets}
 use Rattle.fixpoint.proofs.Sets.{sets-range}
-use Rattle.model.specs.System.{System}
+use Rattle.system.specs.System.{System}
 use Rattle.model.specs.File.{linesIn, levelsIn, decode}
 use Rattle.model.specs.Checks.{fileChecks, fileNumber}
 use Rattle.model.specs.Says.{readingAnswer, sized}
@@ -24,7 +24,7 @@ use Rattle.model.specs.declared.layout.Reading.{Reading}
 use Rattle.model.specs.declared.layout.Reading.the-variants as reading
 use Rattle.model.proofs.Refusals.{AcceptedAs, RefusedAs, accepted-as, refused-as}
 use Rattle.model.proofs.Accepted.{accepted, decoded, limits, room}
-use Rattle.evaluator.specs.ByLevels.{Held, systemIn}
+use Rattle.model.specs.Held.{Held, systemIn}
 use Rattle.view.specs.View.{InUse}
 use Rattle.solver.specs.Checks.{misplaced, boundChecks, builtNumber}
 

@@ -20,12 +20,13 @@ use Rattle.model.specs.File.{decode}
 use Rattle.model.specs.Checks.{some}
 use Rattle.model.specs.declared.layout.Model.{Model}
 use Rattle.model.proofs.Refusals.{RefusedAs, refused-before, refused-answer}
-use Rattle.routes.specs.Parts.{under, Lent}
+use Rattle.plain_route.specs.Under.{under}
+use Rattle.routes.specs.Parts.{Lent}
 use Rattle.routes.specs.Routes.{leastLevels, greatestLevels, plainRun}
 use Rattle.routes.specs.declared.step.Found.{Found}
-use Rattle.routes.specs.declared.plain_route.Outcome.the-variants as outcome
+use Rattle.plain_route.specs.declared.Outcome.the-variants as outcome
 use Rattle.routes.proofs.Promises.{plain-is-nested, built-product, built-nested, lent-product, lent-nested}
-use Rattle.routes.proofs.Rounds.{Fits, settled-fits, spent-exceeds}
+use Rattle.plain_route.proofs.Rounds.{Fits, settled-fits, spent-exceeds}
 use Rattle.view.specs.View.{BuiltIs, LentIs}
 use Rattle.solver.specs.Checks.{badTree, boundChecks, builtNumber, plainNumber, treeChecks, lentNumber}
 use Rattle.solver.specs.Says.{judged, PlainSays, BuiltSays, LentSays}

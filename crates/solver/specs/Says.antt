@@ -9,7 +9,7 @@ use Rattle.trees.specs.Tree.{leaves}
 use Rattle.trees.specs.Fit.{Universal}
 use Rattle.trees.specs.Built.{leafCount}
 use Rattle.model.specs.File.{decode}
-use Rattle.model.specs.Query.{query}
+use Rattle.system.specs.Query.{query}
 use Rattle.model.specs.declared.layout.Reading.{Reading}
 use Rattle.model.specs.declared.layout.Reading.the-variants as reading
 use Rattle.routes.specs.Routes.{leastLevels, greatestLevels, builtLeast, builtGreatest, nestedSet, plainRun, restrictedSet, restrictedCount}

@@ -5,14 +5,14 @@ ghost use Prim.Native.Nat.{_≤_};
 ghost use Rattle.answers.specs.Check.{unless};
 ghost use Rattle.model.specs.File.{linesIn, levelsIn};
 ghost use Rattle.model.specs.Says.{readingAnswer, sized};
-ghost use Rattle.evaluator.specs.ByLevels.{Held, systemIn};
+ghost use Rattle.model.specs.Held.{Held, systemIn};
 ghost use Rattle.routes.specs.Routes.{leastLevels};
 ghost use Rattle.solver.specs.Checks.{misplaced, badTree, builtNumber};
 ghost use Rattle.solver.specs.Says.{queriedAnswer, queryAnswer, handedOn, PlainSays, BuiltSays, LentSays};
 use answers::Refusal;
 use model::Model;
 use model::Reading;
-use routes::Outcome;
+use plain_route::Outcome;
 
 // What one query answers.
 pub enum Queried {
@@ -24,7 +24,7 @@ pub enum Queried {
 pub fn query(file: &[u8], xs: &[u64]) -> Queried
     ensures { λ r. ⌜ queriedAnswer r ≡ queryAnswer (now (file .entry)) (now (xs .entry)) ⌝ }
 {
-    let counts = model::check(file);
+    let counts = checker::check(file);
     let m = match counts {
         Reading::Accepted(m) => m,
         Reading::Refused(e) => return Queried::Refused(e),
@@ -63,7 +63,7 @@ fn bounds_misplaced(n: usize, a: u64, b: u64) -> bool
 fn admit(file: &[u8], a: u64, b: u64) -> Reading
     ensures { λ r. ⌜ readingAnswer r ≡ unless (builtNumber (now (file .entry)) a b) (sized (linesIn (now (file .entry))) (levelsIn (now (file .entry)))) ⌝ }
 {
-    let counts = model::check(file);
+    let counts = checker::check(file);
     let Reading::Accepted(m) = counts else {
         return counts;
     };

@@ -1,82 +1,16 @@
 // The operations for C and Rust to call: each fills six words with its answer (include/solver.h).
 ghost use mathlib.Core.Path.{_≡_};
 ghost use lib.ListN.{length};
-ghost use Rattle.answers.specs.Answer.{refusal, numberOf};
-ghost use Rattle.trees.specs.Count.{countedAnswer, leafCountAnswer};
-ghost use Rattle.model.specs.System.{systemOf};
-ghost use Rattle.model.specs.Says.{readingAnswer, writtenAnswer, readAnswer, writeAnswer, ReadLeaves, WriteLeaves};
-ghost use Rattle.solver.specs.Says.{queriedAnswer, judgedAnswer, queryAnswer, plainAnswer, builtAnswer, lentAnswer};
-ghost use Rattle.solver_c.specs.Words.{sixWords};
-use answers::Refusal;
-use model::Reading;
-use model::Written;
-use solver::Judged;
-use solver::Queried;
-use trees::LeafCount;
-
-fn put_refused(answer: &mut [u64; 6], e: Refusal)
-    ensures { λ _. ⌜ now (answer .exit) ≡ sixWords (refusal (numberOf e)) ⌝ }
-{
-    *answer = [answers::number(e), 0, 0, 0, 0, 0];
-}
-
-fn put_judged(answer: &mut [u64; 6], j: Judged)
-    ensures { λ _. ⌜ now (answer .exit) ≡ sixWords (judgedAnswer j) ⌝ }
-{
-    match j {
-        Judged::Found { set, count } => {
-            *answer = [0, set, count, 0, 0, 0];
-        }
-        Judged::Refused(e) => put_refused(answer, e),
-    }
-}
-
-fn put_reading(answer: &mut [u64; 6], r: Reading)
-    ensures { λ _. ⌜ now (answer .exit) ≡ sixWords (readingAnswer r) ⌝ }
-{
-    match r {
-        Reading::Accepted(m) => {
-            let n = m.lines as u64;
-            let d = m.levels as u64;
-            *answer = [0, 0, 0, 0, n, d];
-        }
-        Reading::Refused(e) => put_refused(answer, e),
-    }
-}
-
-fn put_written(answer: &mut [u64; 6], r: Written)
-    ensures { λ _. ⌜ now (answer .exit) ≡ sixWords (writtenAnswer r) ⌝ }
-{
-    match r {
-        Written::Length(bytes) => {
-            let made = bytes as u64;
-            *answer = [0, 0, 0, made, 0, 0];
-        }
-        Written::Refused(e) => put_refused(answer, e),
-    }
-}
-
-fn put_queried(answer: &mut [u64; 6], r: Queried)
-    ensures { λ _. ⌜ now (answer .exit) ≡ sixWords (queriedAnswer r) ⌝ }
-{
-    match r {
-        Queried::Set(set) => {
-            *answer = [0, set, 0, 0, 0, 0];
-        }
-        Queried::Refused(e) => put_refused(answer, e),
-    }
-}
-
-fn put_leaves(answer: &mut [u64; 6], r: LeafCount)
-    ensures { λ _. ⌜ now (answer .exit) ≡ sixWords (countedAnswer r) ⌝ }
-{
-    match r {
-        LeafCount::Leaves(count) => {
-            *answer = [0, 0, count, 0, 0, 0];
-        }
-        LeafCount::Refused(e) => put_refused(answer, e),
-    }
-}
+ghost use Rattle.trees.specs.Count.{leafCountAnswer};
+ghost use Rattle.system.specs.System.{systemOf};
+ghost use Rattle.model.specs.Says.{readAnswer, writeAnswer, ReadLeaves, WriteLeaves};
+ghost use Rattle.solver.specs.Says.{queryAnswer, plainAnswer, builtAnswer, lentAnswer};
+ghost use Rattle.answer_c.specs.Words.{sixWords};
+use answer_c::put_judged;
+use answer_c::put_leaves;
+use answer_c::put_queried;
+use answer_c::put_reading;
+use answer_c::put_written;
 
 #[no_mangle]
 pub extern "C" fn solver_read(
@@ -89,7 +23,7 @@ pub extern "C" fn solver_read(
     ensures { λ _. ⌜ now (answer .exit) ≡ sixWords (readAnswer (now (file .entry)) (length (now (signs .entry))) (length (now (kinds .entry))) (length (now (words .entry)))) ⌝ }
     ensures { λ _. ⌜ ReadLeaves (now (file .entry)) (now (signs .entry)) (now (kinds .entry)) (now (words .entry)) (now (signs .exit)) (now (kinds .exit)) (now (words .exit)) ⌝ }
 {
-    put_reading(answer, model::read(file, signs, kinds, words));
+    put_reading(answer, reader::read(file, signs, kinds, words));
 }
 
 #[no_mangle]
@@ -105,7 +39,7 @@ pub extern "C" fn solver_write(
     ensures { λ _. ⌜ now (answer .exit) ≡ sixWords (writeAnswer (systemOf n d (now (signs .entry)) (now (kinds .entry)) (now (words .entry))) (length (now (buffer .entry)))) ⌝ }
     ensures { λ _. ⌜ WriteLeaves (systemOf n d (now (signs .entry)) (now (kinds .entry)) (now (words .entry))) (now (buffer .entry)) (now (buffer .exit)) ⌝ }
 {
-    put_written(answer, model::write(n, d, signs, kinds, words, buffer));
+    put_written(answer, writer::write(n, d, signs, kinds, words, buffer));
 }
 
 #[no_mangle]

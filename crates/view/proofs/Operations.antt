@@ -13,11 +13,11 @@ use denote.Enum.Laws as EL
 use Rattle.fixpoint.specs.Lawful.{Range}
 use Rattle.fixpoint.specs.Sets.{sets}
 use Rattle.model.specs.File.{decode}
-use Rattle.model.specs.Query.{query as querySet}
+use Rattle.system.specs.Query.{query as querySet}
 use Rattle.routes.proofs.step.Found as Found
 use Rattle.routes.proofs.step.Found.Laws as Found′
-use Rattle.routes.proofs.plain_route.Outcome as Outcome
-use Rattle.routes.proofs.plain_route.Outcome.Laws as Outcome′
+use Rattle.plain_route.proofs.Outcome as Outcome
+use Rattle.plain_route.proofs.Outcome.Laws as Outcome′
 use Rattle.view.specs.View.{InUse, Fitting, PlainIs, BuiltIs, LentIs}
 use Rattle.view.specs.declared.View.{View}
 use Rattle.view.proofs.Operation.{Operation}

@@ -10,14 +10,15 @@ use lib.Seq.{take-all}
 use Rattle.fixpoint.specs.Lawful.{Range}
 use Rattle.fixpoint.specs.Sets.{sets}
 use Rattle.model.specs.File.{decode}
-use Rattle.model.specs.Query.{query}
-use Rattle.model.specs.System.{System}
+use Rattle.system.specs.Query.{query}
+use Rattle.system.specs.System.{System}
 use Rattle.model.specs.declared.layout.Model.{Model}
-use Rattle.evaluator.specs.ByLevels.{systemIn}
-use Rattle.routes.specs.Parts.{plainFrom, under, restrictedFrom, queriesFrom, Gives}
+use Rattle.model.specs.Held.{systemIn}
+use Rattle.routes.specs.Parts.{plainFrom, restrictedFrom, queriesFrom, Gives}
+use Rattle.plain_route.specs.Under.{under}
 use Rattle.routes.specs.Routes.{builtLeast, builtGreatest}
 use Rattle.routes.specs.declared.step.Found.{Found}
-use Rattle.routes.specs.declared.plain_route.Outcome.{Outcome}
+use Rattle.plain_route.specs.declared.Outcome.{Outcome}
 use Rattle.routes.proofs.Promises.{plain-rounds}
 use Rattle.view.specs.View.{InUse, PlainIs, BuiltIs, LentIs}
 use Rattle.view.proofs.InUse.{countsOf, used}

@@ -3,12 +3,13 @@
 use mathlib.Core.List.{List}
 use mathlib.Core.Path.{_≡_}
 use Prim.Native.Nat.{ℕ}
-use Rattle.model.specs.System.{System}
+use Rattle.system.specs.System.{System}
 use Rattle.model.specs.Says.{checkAnswer, sized}
-use Rattle.routes.specs.Parts.{Lent, Gives, under}
+use Rattle.routes.specs.Parts.{Lent, Gives}
+use Rattle.plain_route.specs.Under.{under}
 use Rattle.routes.specs.Routes.{leastLevels, greatestLevels, builtLeast, builtGreatest, plainRun, restrictedSet, restrictedCount}
 use Rattle.routes.specs.declared.step.Found.{Found}
-use Rattle.routes.specs.declared.plain_route.Outcome.{Outcome}
+use Rattle.plain_route.specs.declared.Outcome.{Outcome}
 
 -- a model in use (document 01): checking accepts the file, with these two counts
 abbrev pub InUse : List ℕ → ℕ → ℕ → Type 0

@@ -5,11 +5,11 @@ ghost use lib.ListN.{length};
 ghost use Rattle.fixpoint.specs.Lawful.{Range};
 ghost use Rattle.fixpoint.specs.Sets.{sets};
 ghost use Rattle.model.specs.File.{linesIn, levelsIn, decode};
-ghost use Rattle.model.specs.Query.{query as querySet};
+ghost use Rattle.system.specs.Query.{query as querySet};
 ghost use Rattle.view.specs.View.{InUse, Fitting, PlainIs, BuiltIs, LentIs};
 use model::Model;
+use plain_route::Outcome;
 use routes::Found;
-use routes::Outcome;
 
 pub struct View<'a> {
     pub file: &'a [u8],
@@ -22,7 +22,7 @@ fn query_at(file: &[u8], lines: usize, levels: usize, xs: &[u64]) -> u64
     requires { ⌜ InUse (now file) lines levels × (length (now xs) ≡ levels) ⌝ }
     ensures { λ r. ⌜ r ≡ querySet (decode (now (file .entry))) (now (xs .entry)) ⌝ }
 {
-    evaluator::evaluate(file, Model { lines, levels }, xs)
+    one_query::evaluate(file, Model { lines, levels }, xs)
 }
 
 // The work: the plain rounds, with at most `ceiling` queries.
@@ -32,7 +32,7 @@ fn plain_at(file: &[u8], lines: usize, levels: usize, a: u64, b: u64, ceiling: u
 {
     let m = Model { lines, levels };
     let w = evaluator::begin(file, m);
-    routes::plain_level(file, m, a, b, levels, w, ceiling)
+    plain_route::plain_level(file, m, a, b, levels, w, ceiling)
 }
 
 // The work: the restricted set over the built-in trees for the file's lines.
@@ -42,7 +42,7 @@ fn built_at(file: &[u8], lines: usize, levels: usize, a: u64, b: u64) -> Found
 {
     let m = Model { lines, levels };
     let w = evaluator::begin(file, m);
-    routes::built_level(file, m, levels, w, a, b, lines, lines)
+    built_route::built_level(file, m, levels, w, a, b, lines, lines)
 }
 
 // The work: the restricted set over two lent trees, given by their heights and gaps.
@@ -62,7 +62,7 @@ fn lent_at(
 {
     let m = Model { lines, levels };
     let w = evaluator::begin(file, m);
-    routes::lent_level(file, m, levels, w, a, b, hu, u, hv, v)
+    lent_route::lent_level(file, m, levels, w, a, b, hu, u, hv, v)
 }
 
 // A view of a file, made with the counts that checking gave.

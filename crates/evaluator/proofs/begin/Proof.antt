@@ -5,7 +5,7 @@ use native.Mathlib.Nat.{min-eq-left}
 use denote.Ref.{now}
 use borrow.Author.Needs.{needs}
 use Rattle.sets.specs.Set.{full}
-use Rattle.evaluator.specs.ByLevels.{systemIn}
+use Rattle.model.specs.Held.{systemIn}
 use Rattle.evaluator.proofs.DecidedLines.{decided-none}
 use Rattle.evaluator.proofs.begin.Statement.{statement}
 use Rattle.evaluator.proofs.begin.Tie as tie

@@ -1,8 +1,8 @@
 -- `evaluator::decide` meets its contract: the lines that are asked are looked at by what they are without operands, and those decided change.
 -- Assumes nothing.
 use denote.Ref.{now}
-use Rattle.evaluator.specs.ByLevels.{systemIn}
-use Rattle.evaluator.proofs.Places.{word-room}
+use Rattle.model.specs.Held.{systemIn}
+use Rattle.model.proofs.Places.{word-room}
 use Rattle.evaluator.proofs.DecidedLines.{asked-few, decided-next}
 use Rattle.evaluator.proofs.decide.Statement.{statement}
 use Rattle.evaluator.proofs.decide.Tie as tie

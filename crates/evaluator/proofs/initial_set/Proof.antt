@@ -9,10 +9,10 @@ use native.Mathlib.Omega.{arith}
 use lib.ListN.{getD}
 use denote.Ref.{now}
 use borrow.Author.Needs.{needs}
-use Rattle.model.specs.Query.{valueOf, setOf}
+use Rattle.system.specs.Query.{valueOf, setOf}
 use Rattle.evaluator.specs.ByLevels.{initialSet}
-use Rattle.evaluator.proofs.Places.{line-kind}
-use Rattle.evaluator.proofs.LineSets.{set-same-values, digits-from, digits-fit, digits-none}
+use Rattle.model.proofs.Places.{line-kind}
+use Rattle.system.proofs.LineSets.{set-same-values, digits-from, digits-fit, digits-none}
 use Rattle.evaluator.proofs.initial_set.Statement.{statement}
 use Rattle.evaluator.proofs.initial_set.Tie as tie
 

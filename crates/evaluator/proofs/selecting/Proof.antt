@@ -19,12 +19,13 @@ use Rattle.sets.specs.Set.{isMember, intersection}
 use Rattle.sets.proofs.Order.{digit}
 use Rattle.sets.proofs.Range.{member-below}
 use Rattle.sets.proofs.Membership.{Lowest, lowest}
-use Rattle.model.specs.Query.{any, selected}
+use Rattle.system.specs.Query.{any, selected}
 use Rattle.evaluator.specs.ByLevels.{selects}
-use Rattle.model.specs.File.{numberAt, wordsAt, sections}
+use Rattle.numbers.specs.Numbers.{numberAt}
+use Rattle.model.specs.File.{wordsAt, sections}
 use Rattle.evaluator.proofs.FoundLines.{FoundSoFar, found-none, found-all, found-more, found-same}
-use Rattle.evaluator.proofs.Places.{word-place}
-use Rattle.evaluator.proofs.Masks.{any-selected}
+use Rattle.model.proofs.Places.{word-place}
+use Rattle.system.proofs.Masks.{any-selected}
 use Rattle.model.proofs.Sizes.{line-fits}
 use Rattle.evaluator.proofs.selecting.Statement.{statement}
 use Rattle.evaluator.proofs.selecting.Tie as tie

@@ -9,8 +9,8 @@ use borrow.Author.Tests.{not-true, not-false}
 use denote.Ref.{now}
 use Rattle.fixpoint.specs.Levels.{leastAmong}
 use Rattle.fixpoint.proofs.Levels.{least-at-least, least-at-greatest}
-use Rattle.model.specs.System.{sign}
-use Rattle.evaluator.specs.ByLevels.{systemIn}
+use Rattle.system.specs.System.{sign}
+use Rattle.model.specs.Held.{systemIn}
 use Rattle.routes.specs.Parts.{leastOf}
 use borrow.Author.Needs.{needs}
 use Rattle.solver.proofs.count_least.Statement.{statement}

@@ -11,7 +11,7 @@ use lib.Dec.{eqb}
 use lib.ListN.{length}
 use Rattle.answers.specs.Check.{firstOf}
 use Rattle.model.specs.File.{levelsIn, decode}
-use Rattle.model.specs.Query as spec
+use Rattle.system.specs.Query as spec
 use Rattle.model.specs.Checks.{some, strays, fileChecks, fileNumber}
 use Rattle.model.specs.Says.{readingAnswer}
 use Rattle.model.specs.declared.layout.Model.{Model}

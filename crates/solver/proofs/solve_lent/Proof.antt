@@ -7,9 +7,9 @@ use Prim.Native.Nat.{ℕ, _-_}
 use native.Mathlib.Omega.{arith}
 use denote.Ref.{now}
 use Rattle.fixpoint.proofs.Levels.{levels-sum}
-use Rattle.model.specs.System.{sign}
+use Rattle.system.specs.System.{sign}
 use Rattle.model.specs.File.{decode}
-use Rattle.evaluator.specs.ByLevels.{systemIn}
+use Rattle.model.specs.Held.{systemIn}
 use Rattle.routes.specs.Routes.{leastLevels, greatestLevels}
 use Rattle.solver.specs.Checks.{badTree}
 use Rattle.solver.specs.Says.{handedOn, LentSays}

@@ -4,10 +4,10 @@ use mathlib.Core.Path.{_≡_, sym, _∙_, ap, subst}
 use native.Mathlib.Omega.{arith}
 use denote.Ref.{now}
 use Rattle.model.specs.File.{decode}
-use Rattle.routes.specs.Parts.{under}
+use Rattle.plain_route.specs.Under.{under}
 use Rattle.routes.specs.Routes.{plainRun}
-use Rattle.routes.specs.declared.plain_route.Outcome.the-variants.{Settled}
-use Rattle.routes.proofs.Rounds.{settled-fits}
+use Rattle.plain_route.specs.declared.Outcome.the-variants.{Settled}
+use Rattle.plain_route.proofs.Rounds.{settled-fits}
 use Rattle.solver.specs.Says.{handedOn, PlainSays}
 use Rattle.solver.specs.declared.Judged.{Judged}
 use Rattle.solver.proofs.Admitted.{Admitted, admitted, counted-range, turned-down}

@@ -1,7 +1,7 @@
 -- `solver_c::solver_write` meets its contract: the words and the buffer are as the operation left them.
 -- Assumes nothing.
 use mathlib.Core.Path.{ap, _∙_}
-use Rattle.solver_c.specs.Words.{sixWords}
+use Rattle.answer_c.specs.Words.{sixWords}
 use borrow.Author.Needs.{needs}
 use Rattle.solver_c.proofs.solver_write.Statement.{statement}
 use Rattle.solver_c.proofs.solver_write.Tie as tie

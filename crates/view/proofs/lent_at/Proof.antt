@@ -4,7 +4,7 @@ use mathlib.Core.List.{[]}
 use mathlib.Core.Path.{sym, subst}
 use native.Mathlib.Nat.{le-refl}
 use denote.Ref.{now}
-use Rattle.model.specs.System.{System}
+use Rattle.system.specs.System.{System}
 use Rattle.view.specs.View.{Fitting}
 use Rattle.view.proofs.InUse.{used}
 use Rattle.view.proofs.Whole.{lent-whole}

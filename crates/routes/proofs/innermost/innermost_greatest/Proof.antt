@@ -7,7 +7,8 @@ use native.Mathlib.Omega.{arith}
 use lib.ListN.{replicate}
 use denote.Ref.{now}
 use borrow.Author.Needs.{needs}
-use Rattle.evaluator.specs.ByLevels.{Decided, systemIn}
+use Rattle.evaluator.specs.ByLevels.{Decided}
+use Rattle.model.specs.Held.{systemIn}
 use Rattle.routes.proofs.Levels.{GreatestGives}
 use Rattle.routes.proofs.InnermostLevels.{after-leaves, greatest-leaf}
 use Rattle.routes.proofs.ChildrenPassed.{greatest-begin}

@@ -8,8 +8,8 @@ use lib.ListN.{getD, drop}
 use lib.Seq.{getD-take, getD-drop}
 use denote.Ref.{now}
 use borrow.Author.Needs.{needs}
-use Rattle.model.specs.System.{sign}
-use Rattle.evaluator.specs.ByLevels.{systemIn}
+use Rattle.system.specs.System.{sign}
+use Rattle.model.specs.Held.{systemIn}
 use Rattle.model.specs.declared.layout.Model.{Model}
 use Rattle.routes.proofs.step.is_greatest.Statement.{statement}
 use Rattle.routes.proofs.step.is_greatest.Tie as tie

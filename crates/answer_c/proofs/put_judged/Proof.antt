@@ -1,0 +1,28 @@
+-- `answer_c::put_judged` meets its contract: the words of each case.
+-- Assumes nothing.
+use mathlib.Core.Path.{sym, ap, _∙_}
+use Rattle.solver.specs.declared.Judged.{Judged}
+use Rattle.solver.specs.Says.{judgedAnswer}
+use Rattle.answer_c.specs.Words.{sixWords}
+use borrow.Author.Needs.{needs}
+use Rattle.answer_c.proofs.put_judged.Statement.{statement}
+use Rattle.answer_c.proofs.put_judged.Tie as tie
+
+enum-known-j : tie.Need-enum-known-j
+enum-known-j c = search needs
+
+enum-known-j-2 : tie.Need-enum-known-j-2
+enum-known-j-2 c = search needs
+
+put-refused-requires : tie.Need-put-refused-requires
+put-refused-requires c κs = search needs
+
+returns : tie.Need-returns
+returns c = sym (ap (λ (r : Judged). sixWords (judgedAnswer r)) (c .before .before .j .given .1))
+
+returns-2 : tie.Need-returns-2
+returns-2 c = c .put-refused .ensures ∙ sym (ap (λ (r : Judged). sixWords (judgedAnswer r)) (c .before .before .before .j2 .given .1))
+
+pub put-judged-spec : {M : Type 1} → statement M
+put-judged-spec =
+    tie.close (tie.spec enum-known-j enum-known-j-2 put-refused-requires returns returns-2)

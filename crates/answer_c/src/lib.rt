@@ -1,0 +1,77 @@
+// Each answer as the six words that a caller from C or Rust is given: number, set, count, length, lines, levels. Definitions: specs/.
+ghost use mathlib.Core.Path.{_≡_};
+ghost use Rattle.answers.specs.Answer.{refusal, numberOf};
+ghost use Rattle.trees.specs.Count.{countedAnswer};
+ghost use Rattle.model.specs.Says.{readingAnswer, writtenAnswer};
+ghost use Rattle.solver.specs.Says.{queriedAnswer, judgedAnswer};
+ghost use Rattle.answer_c.specs.Words.{sixWords};
+use answers::Refusal;
+use model::Reading;
+use model::Written;
+use solver::Judged;
+use solver::Queried;
+use trees::LeafCount;
+
+fn put_refused(answer: &mut [u64; 6], e: Refusal)
+    ensures { λ _. ⌜ now (answer .exit) ≡ sixWords (refusal (numberOf e)) ⌝ }
+{
+    *answer = [answers::number(e), 0, 0, 0, 0, 0];
+}
+
+pub fn put_judged(answer: &mut [u64; 6], j: Judged)
+    ensures { λ _. ⌜ now (answer .exit) ≡ sixWords (judgedAnswer j) ⌝ }
+{
+    match j {
+        Judged::Found { set, count } => {
+            *answer = [0, set, count, 0, 0, 0];
+        }
+        Judged::Refused(e) => put_refused(answer, e),
+    }
+}
+
+pub fn put_reading(answer: &mut [u64; 6], r: Reading)
+    ensures { λ _. ⌜ now (answer .exit) ≡ sixWords (readingAnswer r) ⌝ }
+{
+    match r {
+        Reading::Accepted(m) => {
+            let n = m.lines as u64;
+            let d = m.levels as u64;
+            *answer = [0, 0, 0, 0, n, d];
+        }
+        Reading::Refused(e) => put_refused(answer, e),
+    }
+}
+
+pub fn put_written(answer: &mut [u64; 6], r: Written)
+    ensures { λ _. ⌜ now (answer .exit) ≡ sixWords (writtenAnswer r) ⌝ }
+{
+    match r {
+        Written::Length(bytes) => {
+            let made = bytes as u64;
+            *answer = [0, 0, 0, made, 0, 0];
+        }
+        Written::Refused(e) => put_refused(answer, e),
+    }
+}
+
+pub fn put_queried(answer: &mut [u64; 6], r: Queried)
+    ensures { λ _. ⌜ now (answer .exit) ≡ sixWords (queriedAnswer r) ⌝ }
+{
+    match r {
+        Queried::Set(set) => {
+            *answer = [0, set, 0, 0, 0, 0];
+        }
+        Queried::Refused(e) => put_refused(answer, e),
+    }
+}
+
+pub fn put_leaves(answer: &mut [u64; 6], r: LeafCount)
+    ensures { λ _. ⌜ now (answer .exit) ≡ sixWords (countedAnswer r) ⌝ }
+{
+    match r {
+        LeafCount::Leaves(count) => {
+            *answer = [0, 0, count, 0, 0, 0];
+        }
+        LeafCount::Refused(e) => put_refused(answer, e),
+    }
+}

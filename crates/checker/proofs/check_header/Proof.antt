@@ -1,0 +1,232 @@
+-- `checker::check_header` meets its contract: the checks passed are passed over, and the one that applies is the answer.
+-- Assumes nothing.
+use borrow.Author.Needs.{needs}
+use borrow.Author.Tests.{lt-ltb, le-ltb, eq-eqb, ne-eqb}
+use mathlib.Core.Bool.{true, cond, not}
+use mathlib.Core.List.{List, [], _∷_, _++_}
+use mathlib.Core.Path.{_≡_, refl, sym, _∙_, ap, ap₂}
+use Prim.Native.Nat.{ℕ, _≤_}
+use native.Mathlib.Omega.{arith}
+use lib.Dec.{eqb, ltb}
+use lib.ListN.{length}
+use Rattle.answers.specs.Check.{_if_, firstOf, unless}
+use Rattle.answers.proofs.Checks.{Passes, first-after, first-before, none-first, inside}
+use Rattle.model.specs.File.{signsAt, kindsAt, wordsAt, linesIn, levelsIn}
+use Rattle.numbers.specs.Numbers.{numberAt}
+use Rattle.model.specs.Checks.{countChecks, layoutChecks, headerChecks}
+use Rattle.model.specs.Says.{readingAnswer, sized}
+use Rattle.model.specs.declared.layout.Model.{Model}
+use Rattle.model.proofs.Refusals.{AcceptedAs, accepted-as, refused-as}
+use Rattle.checker.proofs.check_header.Statement.{statement}
+use Rattle.checker.proofs.check_header.Tie as tie
+
+-- the file, and the counts that are taken from it
+abbrev bytes : tie.After-new → List ℕ
+bytes c = c .before .before .before .before .before .args .file .now
+
+abbrev model : tie.After-known-told → Model
+model c = c .before .counts .given .0 .0
+
+counted : (c : tie.After-new) →
+    let n = linesIn (bytes c) in
+    let d = levelsIn (bytes c) in
+    readingAnswer (c .new .result) ≡ unless (firstOf (countChecks n d)) (sized n d)
+counted c =
+    c .new .ensures
+    ∙ ap₂ (λ (n d : ℕ). unless (firstOf (countChecks n d)) (sized n d)) (c .before .before .u16-at .ensures) (c .before .u16-at2 .ensures)
+
+accepted : (c : tie.After-known-told) →
+    let file = bytes (c .before .before .before) in
+    AcceptedAs (firstOf (countChecks (linesIn file) (levelsIn file))) (linesIn file) (levelsIn file) (model c)
+accepted c = accepted-as _ _ _ (counted (c .before .before .before)) (c .before .counts .given .1)
+
+passed : (c : tie.After-known-told) →
+    let file = bytes (c .before .before .before) in
+    Passes (countChecks (linesIn file) (levelsIn file))
+passed c =
+    let file = bytes (c .before .before .before) in
+    none-first (countChecks (linesIn file) (levelsIn file)) refl (accepted c .number)
+
+limits : (c : tie.After-known-told) → (model c .lines ≤ 64) × (model c .levels ≤ 8)
+limits c =
+    let file = bytes (c .before .before .before) in
+    (omega (arith, accepted c, inside 64 (linesIn file) (passed c .0)), omega (arith, accepted c, inside 8 (levelsIn file) (passed c .1 .0)))
+
+-- only the layout is left to check
+headed : (c : tie.After-known-told) →
+    let file = bytes (c .before .before .before) in
+    firstOf (headerChecks file) ≡ firstOf (layoutChecks file)
+headed c =
+    let file = bytes (c .before .before .before) in
+    let long = le-ltb (length file) 16 (c .before .before .before .before .before .before .if1 .left) in
+    first-after (1 if ltb (length file) 16 ∷ countChecks (linesIn file) (levelsIn file)) (layoutChecks file) (long, passed c)
+
+-- what each test of the layout compares
+signs-test : (c : tie.After-u32-at) →
+    let file = bytes (c .before .before .before .before) in
+    eqb (numberAt file 4 4) signsAt ≡ eqb (c .u32-at .result) signsAt
+signs-test c = ap (λ (x : ℕ). eqb x signsAt) (sym (c .u32-at .ensures))
+
+signs-right : (c : tie.Else2) → eqb (numberAt (bytes (c .before .before .before .before .before)) 4 4) signsAt ≡ true
+signs-right c = signs-test (c .before) ∙ eq-eqb _ _ (c .if2 .left)
+
+kinds-test : (c : tie.After-kinds-at) →
+    let file = bytes (c .before .before .before .before .before .before .before) in
+    eqb (numberAt file 8 4) (kindsAt (levelsIn file)) ≡ eqb (c .before .u32-at2 .result) (c .kinds-at .result)
+kinds-test c =
+    let known = accepted (c .before .before .before .before) in
+    sym (ap₂ eqb (c .before .u32-at2 .ensures) (c .kinds-at .ensures ∙ ap kindsAt (known .levels)))
+
+kinds-right : (c : tie.Else3) →
+    let file = bytes (c .before .before .before .before .before .before .before .before) in
+    eqb (numberAt file 8 4) (kindsAt (levelsIn file)) ≡ true
+kinds-right c = kinds-test (c .before) ∙ eq-eqb _ _ (c .if3 .left)
+
+words-test : (c : tie.After-words-at) →
+    let file = bytes (c .before .before .before .before .before .before .before .before .before .before) in
+    eqb (numberAt file 12 4) (wordsAt (linesIn file) (levelsIn file)) ≡ eqb (c .before .u32-at3 .result) (c .words-at .result)
+words-test c =
+    let known = accepted (c .before .before .before .before .before .before .before) in
+    sym (ap₂ eqb (c .before .u32-at3 .ensures) (c .words-at .ensures ∙ ap₂ wordsAt (known .lines) (known .levels)))
+
+words-right : (c : tie.Else4) →
+    let file = bytes (c .before .before .before .before .before .before .before .before .before .before .before) in
+    eqb (numberAt file 12 4) (wordsAt (linesIn file) (levelsIn file)) ≡ true
+words-right c = words-test (c .before) ∙ eq-eqb _ _ (c .if4 .left)
+
+-- only the length is left to check
+measured : (c : tie.After-file-length) →
+    let file = bytes (c .before .before .before .before .before .before .before .before .before .before .before .before) in
+    firstOf (headerChecks file) ≡ cond (not (eqb (length file) (c .file-length .result))) 5 0
+measured c =
+    let known = accepted (c .before .before .before .before .before .before .before .before .before) in
+    rw (
+      headed (c .before .before .before .before .before .before .before .before .before),
+      signs-right (c .before .before .before .before .before .before .before),
+      kinds-right (c .before .before .before .before),
+      words-right (c .before),
+      c .file-length .ensures,
+      known .lines,
+      known .levels,
+    )
+
+returns : tie.Need-returns
+returns c = simp (lt-ltb _ _ (c .if1 .taken))
+
+u16-at-requires : tie.Need-u16-at-requires
+u16-at-requires c κs = search needs
+
+cast-new : tie.Need-cast-new
+cast-new c = search needs
+
+u16-at-requires-2 : tie.Need-u16-at-requires-2
+u16-at-requires-2 c κs = search needs
+
+cast-new-2 : tie.Need-cast-new-2
+cast-new-2 c = search needs
+
+new-requires : tie.Need-new-requires
+new-requires c κs = search needs
+
+enum-known-counts : tie.Need-enum-known-counts
+enum-known-counts c = search needs
+
+enum-told : tie.Need-enum-told
+enum-told c = search needs
+
+returns-2 : tie.Need-returns-2
+returns-2 c =
+    let file = bytes (c .before .before) in
+    let n = linesIn file in
+    let d = levelsIn file in
+    let counts = countChecks n d in
+    let refused = refused-as (firstOf counts) n d (counted (c .before .before)) (c .enum-told .given .1) in
+    let long = le-ltb (length file) 16 (c .before .before .before .before .before .if1 .left) in
+    let after = first-after (1 if ltb (length file) 16 ∷ []) (counts ++ layoutChecks file) (long, tt) in
+    let before = first-before counts (layoutChecks file) (refused .positive) in
+    counted (c .before .before) ∙ ap (λ (e : ℕ). unless e (sized n d)) (sym (after ∙ before))
+
+u32-at-requires : tie.Need-u32-at-requires
+u32-at-requires c κs = search needs
+
+cast-if2 : tie.Need-cast-if2
+cast-if2 c = search needs
+
+returns-3 : tie.Need-returns-3
+returns-3 c = rw (headed (c .before .before), signs-test (c .before), ne-eqb _ _ (c .if2 .taken))
+
+u32-at-requires-2 : tie.Need-u32-at-requires-2
+u32-at-requires-2 c κs = search needs
+
+cast-if3 : tie.Need-cast-if3
+cast-if3 c = search needs
+
+kinds-at-requires : tie.Need-kinds-at-requires
+kinds-at-requires c κs = limits (c .before .before .before) .1
+
+returns-4 : tie.Need-returns-4
+returns-4 c =
+    rw (
+      headed (c .before .before .before .before .before),
+      signs-right (c .before .before .before),
+      kinds-test (c .before),
+      ne-eqb _ _ (c .if3 .taken),
+    )
+
+u32-at-requires-3 : tie.Need-u32-at-requires-3
+u32-at-requires-3 c κs = search needs
+
+cast-if4 : tie.Need-cast-if4
+cast-if4 c = search needs
+
+words-at-requires : tie.Need-words-at-requires
+words-at-requires c κs = limits (c .before .before .before .before .before .before)
+
+returns-5 : tie.Need-returns-5
+returns-5 c =
+    rw (
+      headed (c .before .before .before .before .before .before .before .before),
+      signs-right (c .before .before .before .before .before .before),
+      kinds-right (c .before .before .before),
+      words-test (c .before),
+      ne-eqb _ _ (c .if4 .taken),
+    )
+
+file-length-requires : tie.Need-file-length-requires
+file-length-requires c κs = limits (c .before .before .before .before .before .before .before .before)
+
+returns-6 : tie.Need-returns-6
+returns-6 c = rw (measured (c .before), ne-eqb _ _ (c .if5 .taken))
+
+returns-7 : tie.Need-returns-7
+returns-7 c =
+    let known = accepted (c .before .before .before .before .before .before .before .before .before .before) in
+    rw (measured (c .before), eq-eqb _ _ (c .if5 .left)) (ap₂ sized (known .lines) (known .levels))
+
+pub check-header-spec : {M : Type 1} → statement M
+check-header-spec =
+    tie.close
+    (tie.spec
+    returns
+    u16-at-requires
+    cast-new
+    u16-at-requires-2
+    cast-new-2
+    new-requires
+    enum-known-counts
+    enum-told
+    returns-2
+    u32-at-requires
+    cast-if2
+    returns-3
+    u32-at-requires-2
+    cast-if3
+    kinds-at-requires
+    returns-4
+    u32-at-requires-3
+    cast-if4
+    words-at-requires
+    returns-5
+    file-length-requires
+    returns-6
+    returns-7)

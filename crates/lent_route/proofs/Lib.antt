@@ -1,0 +1,2 @@
+pub mod FirstChild
+pub mod LentLevels

@@ -1,0 +1,96 @@
+-- `one_query::all_operands` meets its contract: the operands of the levels passed are all set, and the first word with one that is not decides.
+-- Assumes nothing.
+use denote.Ref.{now}
+use mathlib.Core.Bool.{Bool, _&&_}
+use mathlib.Core.Path.{_≡_, refl, sym, _∙_, ap}
+use Prim.Native.Nat.{ℕ, _+_, _-_, _≤_}
+use native.Mathlib.Omega.{arith}
+use borrow.Author.Needs.{needs}
+use borrow.Author.Tests.{eq-eqb, ne-eqb}
+use lib.ListN.{getD}
+use Rattle.sets.specs.Set.{isWithin}
+use Rattle.system.specs.Query.{all}
+use Rattle.one_query.proofs.Operands.{from, from-start, from-end, all-step}
+use Rattle.one_query.proofs.all_operands.Statement.{statement}
+use Rattle.one_query.proofs.all_operands.Tie as tie
+
+abbrev Inv-loop : tie.InvT-loop
+Inv-loop file at d xs k₀ k = (k ≤ d) × (all (from file at d xs 0) ≡ all (from file at d xs k))
+
+abbrev μ-loop : tie.MeasureT-loop
+μ-loop file at d xs k₀ k = d - k
+
+-- the operands from level k + 1 on
+abbrev rest : tie.Start Inv-loop μ-loop → ℕ → Bool
+rest c k = all (from (now (c .args .file)) (c .args .at) (c .args .d) (now (c .args .xs)) k)
+
+-- one level's part in them
+step : (c : tie.After-shared-slice-known3 Inv-loop μ-loop) →
+    let start = c .before .before .before .before .before .before in
+    let k = c .before .before .before .loop .k in
+    let x = getD (now (start .args .xs)) k 0 in
+    rest start k ≡ (isWithin (c .before .u64-at .result) x && rest start (k + 1))
+step c =
+    let start = c .before .before .before .before .before .before in
+    let k = c .before .before .before .loop .k in
+    all-step (now (start .args .file)) (start .args .at) (start .args .d) (now (start .args .xs)) k (c .before .before .loop-test .taken) (omega arith)
+    (c .before .u64-at .result) (c .before .u64-at .ensures) (omega arith) (omega (arith, c .shared-slice-known3 .given k))
+
+loop-holds : tie.Need-loop-holds Inv-loop μ-loop
+loop-holds c = (omega arith, refl)
+
+mul-u64-at : tie.Need-mul-u64-at Inv-loop μ-loop
+mul-u64-at c = search needs
+
+add-u64-at : tie.Need-add-u64-at Inv-loop μ-loop
+add-u64-at c = search needs
+
+u64-at-requires : tie.Need-u64-at-requires Inv-loop μ-loop
+u64-at-requires c κs = search needs
+
+mul-if1 : tie.Need-mul-if1 Inv-loop μ-loop
+mul-if1 c = search needs
+
+shared-slice-read-if1 : tie.Need-shared-slice-read-if1 Inv-loop μ-loop
+shared-slice-read-if1 c = search needs
+
+returns : tie.Need-returns Inv-loop μ-loop
+returns c =
+    let start = c .before .before .before .before .before .before .before in
+    let whole = from-start (now (start .args .file)) (start .args .at) (start .args .d) (now (start .args .xs)) in
+    sym (ap all (sym whole) ∙ c .before .before .before .before .loop .inv .1 ∙ step (c .before) ∙ rw (ne-eqb _ _ (c .if1 .taken)))
+
+add-k : tie.Need-add-k Inv-loop μ-loop
+add-k c = search needs
+
+loop-less : tie.Need-loop-less Inv-loop μ-loop
+loop-less c = search needs
+
+loop-again : tie.Need-loop-again Inv-loop μ-loop
+loop-again c = (omega arith, c .before .before .before .before .loop .inv .1 ∙ step (c .before) ∙ rw (eq-eqb _ _ (c .if1 .left)))
+
+returns-2 : tie.Need-returns-2 Inv-loop μ-loop
+returns-2 c =
+    let start = c .before .before .before .before in
+    let whole = from-start (now (start .args .file)) (start .args .at) (start .args .d) (now (start .args .xs)) in
+    let end : c .before .loop .k ≡ start .args .d = omega arith in
+    sym (ap all (sym whole) ∙ c .before .loop .inv .1 ∙ ap (rest start) end
+    ∙ ap all (from-end (now (start .args .file)) (start .args .at) (start .args .d) (now (start .args .xs))))
+
+pub all-operands-spec : {M : Type 1} → statement M
+all-operands-spec =
+    tie.close
+    (tie.spec
+    Inv-loop
+    μ-loop
+    loop-holds
+    mul-u64-at
+    add-u64-at
+    u64-at-requires
+    mul-if1
+    shared-slice-read-if1
+    returns
+    add-k
+    loop-less
+    loop-again
+    returns-2)

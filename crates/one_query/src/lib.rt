@@ -1,0 +1,77 @@
+// The set of one query, line by line: no argument stays for a further query, so nothing is carried.
+ghost use mathlib.Core.Path.{_≡_};
+ghost use Prim.Native.Nat.{_+_, _*_, _≤_, _<_};
+ghost use lib.ListN.{length, take, drop};
+ghost use Rattle.system.specs.Query as spec;
+ghost use Rattle.numbers.specs.Numbers.{wordsFrom};
+ghost use Rattle.model.specs.Held.{Held, systemIn};
+use model::Model;
+use numbers::u64_at;
+
+// The "or" of the operands that the d words from an offset on select. The first word with a set operand decides.
+fn any_operand(file: &[u8], at: usize, d: usize, xs: &[u64]) -> bool
+    requires { ⌜ (d ≤ 8) × (at + 8 * d ≤ length (now file)) ⌝ }
+    requires { ⌜ d ≤ length (now xs) ⌝ }
+    ensures { λ r. ⌜ r ≡ spec.any (spec.operands (wordsFrom d (drop at (now (file .entry)))) (take d (now (xs .entry)))) ⌝ }
+{
+    let mut k = 0;
+    while k < d {
+        if u64_at(file, at + 8 * k) & xs[k] != 0 {
+            return true;
+        }
+        k += 1;
+    }
+    false
+}
+
+// The "and" of the same. The first word with an operand that is not set decides.
+fn all_operands(file: &[u8], at: usize, d: usize, xs: &[u64]) -> bool
+    requires { ⌜ (d ≤ 8) × (at + 8 * d ≤ length (now file)) ⌝ }
+    requires { ⌜ d ≤ length (now xs) ⌝ }
+    ensures { λ r. ⌜ r ≡ spec.all (spec.operands (wordsFrom d (drop at (now (file .entry)))) (take d (now (xs .entry)))) ⌝ }
+{
+    let mut k = 0;
+    while k < d {
+        let w = u64_at(file, at + 8 * k);
+        if w & xs[k] != w {
+            return false;
+        }
+        k += 1;
+    }
+    true
+}
+
+// A line's value by its kind.
+fn line_value(file: &[u8], kind: u8, at: usize, d: usize, xs: &[u64]) -> bool
+    requires { ⌜ (d ≤ 8) × (at + 8 * d ≤ length (now file)) ⌝ }
+    requires { ⌜ d ≤ length (now xs) ⌝ }
+    ensures { λ r. ⌜ r ≡ spec.valueOf kind (spec.operands (wordsFrom d (drop at (now (file .entry)))) (take d (now (xs .entry)))) ⌝ }
+{
+    if kind == 0 {
+        any_operand(file, at, d, xs)
+    } else {
+        all_operands(file, at, d, xs)
+    }
+}
+
+// The query's set for a file of these counts, at the arguments in the first places of xs.
+pub fn evaluate(file: &[u8], m: Model, xs: &[u64]) -> u64
+    requires { ⌜ Held (now file) m ⌝ }
+    requires { ⌜ m .levels ≤ length (now xs) ⌝ }
+    ensures { λ r. ⌜ r ≡ spec.query (systemIn (now (file .entry)) m) (take (m .levels) (now (xs .entry))) ⌝ }
+{
+    let n = m.lines;
+    let d = m.levels;
+    let kinds_at = m.kinds_at();
+    let mut at = m.words_at();
+    let mut set: u64 = 0;
+    let mut i = 0;
+    while i < n {
+        if line_value(file, file[kinds_at + i], at, d, xs) {
+            set = set | (1u64 << i);
+        }
+        at += 8 * d;
+        i += 1;
+    }
+    set
+}

@@ -1,0 +1,89 @@
+// The plain route: rounds of each level from its own start, under a ceiling on the queries.
+ghost use mathlib.Core.Path.{_≡_};
+ghost use mathlib.Core.Bool.{cond};
+ghost use mathlib.Core.List.{List};
+ghost use Prim.Native.Nat.{ℕ, _<_, _≤_, _^_};
+ghost use Rattle.system.specs.System.{sign};
+ghost use Rattle.model.specs.Held.{Held, systemIn};
+ghost use Rattle.evaluator.specs.ByLevels.{Decided, SomeDecide};
+ghost use Rattle.routes.specs.Parts.{plainFrom};
+ghost use Rattle.plain_route.specs.Under.{under};
+use evaluator::Pending;
+use evaluator::decide;
+use evaluator::step_to;
+use model::Model;
+use routes::is_greatest;
+
+// How a run under a ceiling ends.
+pub enum Outcome {
+    // With this set, and so much of the ceiling left.
+    Settled { set: u64, left: u64 },
+    // The run needs more queries than the ceiling allows.
+    Spent,
+}
+
+// The value that level k + 1 starts from.
+fn start_of(file: &[u8], m: Model, k: usize, a: u64, b: u64) -> u64
+    requires { ⌜ Held (now file) m ⌝ }
+    requires { ⌜ k < m .levels ⌝ }
+    ensures { λ r. ⌜ r ≡ cond (sign (systemIn (now (file .entry)) m) k) b a ⌝ }
+{
+    if is_greatest(file, m, k) { b } else { a }
+}
+
+// The rounds of the innermost level: each is one query, and takes one off what is left of the ceiling.
+fn innermost_rounds(file: &[u8], m: Model, a: u64, b: u64, w: Pending, left: u64) -> Outcome
+    requires { ⌜ Held (now file) m × (0 < m .levels) ⌝ }
+    requires { ⌜ w .undecided < 2 ^ m .lines ⌝ }
+    ensures { λ r. ⌜
+        (let s = systemIn (now (file .entry)) m in
+        (rounds : ℕ) → left < rounds → (ys : List ℕ) → Decided s 1 ys a b w → r ≡ under left (plainFrom rounds s a b 1 ys)) ⌝ }
+{
+    let mut x = start_of(file, m, 0, a, b);
+    let mut rest = left;
+    while rest != 0 {
+        let set = step_to(a, b, decide(file, m, 0, x, a, b, w));
+        rest -= 1;
+        if set == x {
+            return Outcome::Settled { set, left: rest };
+        }
+        x = set;
+    }
+    Outcome::Spent
+}
+
+// The plain rounds of the levels k, .., 1, at arguments of the levels above of which w is what they decide.
+pub fn plain_level(
+    file: &[u8],
+    m: Model,
+    a: u64,
+    b: u64,
+    k: usize,
+    w: Pending,
+    left: u64,
+) -> Outcome
+    requires { ⌜ Held (now file) m × SomeDecide (systemIn (now file) m) k a b w ⌝ }
+    requires { ⌜ (0 < k) × (k ≤ m .levels) ⌝ }
+    ensures { λ r. ⌜
+        (let s = systemIn (now (file .entry)) m in
+        (rounds : ℕ) → left < rounds → (ys : List ℕ) → Decided s k ys a b w → r ≡ under left (plainFrom rounds s a b k ys)) ⌝ }
+{
+    let below = k - 1;
+    if below == 0 {
+        return innermost_rounds(file, m, a, b, w, left);
+    }
+    let mut x = start_of(file, m, below, a, b);
+    let mut rest = left;
+    loop {
+        let next = decide(file, m, below, x, a, b, w);
+        let round = plain_level(file, m, a, b, below, next, rest);
+        let Outcome::Settled { set, left: unused } = round else {
+            return Outcome::Spent;
+        };
+        if set == x {
+            return round;
+        }
+        x = set;
+        rest = unused;
+    }
+}

@@ -1,0 +1,3 @@
+pub mod Monotone
+pub mod LineSets
+pub mod Masks

@@ -1,0 +1,91 @@
+-- A mask finds what the operands of one word come to: their "or" is set where the word and the argument have a line in common,
+-- their "and" where the word lies within the argument.
+-- Assumes nothing.
+use mathlib.Core.Bool.{Bool, true, false, cond, not, _&&_, _||_, or-assoc, and-assoc}
+use mathlib.Core.List.{List, [], _∷_, _++_}
+use mathlib.Core.Path.{_≡_, refl, sym, _∙_, ap}
+use Prim.Native.Nat.{ℕ, zero, suc, _+_, _*_, _%_, _^_, min, _<_}
+use native.Mathlib.Nat.{mod-eq-of-lt, mod-lt}
+use native.Mathlib.Numerals.{one-add}
+use native.Mathlib.Omega.{arith}
+use borrow.Author.Tests.{eqb-true, eqb-false, eq-eqb, ne-eqb}
+use lib.Bits.{and-lt}
+use lib.Dec.{eqb}
+use lib.Pow.{mod-pow-add, pow-pos}
+use Rattle.sets.specs.Set.{isMember, intersection, isWithin}
+use Rattle.sets.proofs.Order.{digit, digit-meet}
+use Rattle.sets.proofs.Membership.{member-digit}
+use Rattle.system.specs.Query.{any, all, selected}
+
+pub any-append : (bs cs : List Bool) → any (bs ++ cs) ≡ (any bs || any cs)
+any-append [] cs = refl
+any-append (b ∷ bs) cs = ap (λ (t : Bool). b || t) (any-append bs cs) ∙ sym (or-assoc b (any bs) (any cs))
+
+pub all-append : (bs cs : List Bool) → all (bs ++ cs) ≡ (all bs && all cs)
+all-append [] cs = refl
+all-append (b ∷ bs) cs = ap (λ (t : Bool). b && t) (all-append bs cs) ∙ sym (and-assoc b (all bs) (all cs))
+
+-- a number's digits below m + 1 are those below m, where the digit m is 0, and more by 2 ^ m, where it is 1
+digit-zero : (y m : ℕ) → digit y m ≡ 0 → y % 2 ^ suc m ≡ y % 2 ^ m
+digit-zero y m e = omega (arith, rw (one-add m) at (mod-pow-add y 1 m), ap (λ (d : ℕ). d * 2 ^ m) e)
+
+digit-one : (y m : ℕ) → digit y m ≡ 1 → y % 2 ^ suc m ≡ 2 ^ m + y % 2 ^ m
+digit-one y m e = omega (arith, rw (one-add m) at (mod-pow-add y 1 m), ap (λ (d : ℕ). d * 2 ^ m) e)
+
+meet-digit : (w x m : ℕ) (s t : Bool) → isMember w m ≡ s → isMember x m ≡ t → digit (intersection w x) m ≡ min (cond s 1 0) (cond t 1 0)
+meet-digit w x m s t e f = rw (digit-meet w x m, member-digit w m s e, member-digit x m t f)
+
+eqb-add : (c a b : ℕ) → eqb (c + a) (c + b) ≡ eqb a b
+eqb-add c a b = go (eqb a b) refl
+  where
+    go : (t : Bool) → eqb a b ≡ t → eqb (c + a) (c + b) ≡ eqb a b
+    go true e = eq-eqb (c + a) (c + b) (ap (λ (x : ℕ). c + x) (eqb-true a b e)) ∙ sym e
+    go false e = ne-eqb (c + a) (c + b) (λ q. eqb-false a b e (omega arith)) ∙ sym e
+
+-- the selections below m, one after the other
+any-below : (m w x : ℕ) → any (selected m w x) ≡ not (eqb (intersection w x % 2 ^ m) 0)
+unfolding selected
+any-below zero w x = sym (ap not (eq-eqb (intersection w x % 1) 0 (omega arith)))
+any-below (suc m) w x = go (isMember w m) (isMember x m) refl refl (any-below m w x)
+  where
+    y : ℕ
+    y = intersection w x
+
+    go : (s t : Bool) → isMember w m ≡ s → isMember x m ≡ t → any (selected m w x) ≡ not (eqb (y % 2 ^ m) 0)
+        → any (cond (isMember w m) (isMember x m ∷ selected m w x) (selected m w x)) ≡ not (eqb (y % 2 ^ suc m) 0)
+    go true true e f ih =
+        rw (e, f, digit-one y m (meet-digit w x m true true e f))
+        (sym (ap not (ne-eqb (2 ^ m + y % 2 ^ m) 0 (λ q. let p : 0 < 2 ^ m = pow-pos m in omega arith))))
+    go true false e f ih = rw (e, f, digit-zero y m (meet-digit w x m true false e f)) ih
+    go false t e f ih = rw (e, digit-zero y m (meet-digit w x m false t e f ∙ omega arith)) ih
+
+all-below : (m w x : ℕ) → all (selected m w x) ≡ eqb (intersection w x % 2 ^ m) (w % 2 ^ m)
+unfolding selected
+all-below zero w x = sym (eq-eqb (intersection w x % 1) (w % 1) (omega arith))
+all-below (suc m) w x = go (isMember w m) (isMember x m) refl refl (all-below m w x)
+  where
+    y : ℕ
+    y = intersection w x
+
+    low : (z : ℕ) → z % 2 ^ m < 2 ^ m
+    low z = mod-lt z (pow-pos m)
+
+    go : (s t : Bool) → isMember w m ≡ s → isMember x m ≡ t → all (selected m w x) ≡ eqb (y % 2 ^ m) (w % 2 ^ m)
+        → all (cond (isMember w m) (isMember x m ∷ selected m w x) (selected m w x)) ≡ eqb (y % 2 ^ suc m) (w % 2 ^ suc m)
+    go true true e f ih =
+        rw (e, f, digit-one y m (meet-digit w x m true true e f), digit-one w m (member-digit w m true e), eqb-add) ih
+    go true false e f ih =
+        rw (e, f, digit-zero y m (meet-digit w x m true false e f), digit-one w m (member-digit w m true e))
+        (sym (ne-eqb (y % 2 ^ m) (2 ^ m + w % 2 ^ m) (λ q. omega (arith, low y))))
+    go false t e f ih = rw (e, digit-zero y m (meet-digit w x m false t e f ∙ omega arith), digit-zero w m (member-digit w m false e)) ih
+
+-- all 64 of them, in words
+module _ (w x : ℕ) (lw : w < 2 ^ 64) (lx : x < 2 ^ 64) where
+  whole : intersection w x % 2 ^ 64 ≡ intersection w x
+  whole = mod-eq-of-lt (and-lt 64 w x lw lx)
+
+  pub any-selected : any (selected 64 w x) ≡ not (eqb (intersection w x) 0)
+  any-selected = any-below 64 w x ∙ ap (λ (y : ℕ). not (eqb y 0)) whole
+
+  pub all-selected : all (selected 64 w x) ≡ isWithin w x
+  all-selected = all-below 64 w x ∙ rw (whole, mod-eq-of-lt lw)

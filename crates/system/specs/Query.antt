@@ -1,0 +1,45 @@
+-- The query F(x1, .., xd) of a model (document 01, "Model"): bit i is the "or" (any) or the "and" (all) of line i's operands.
+-- Assumes nothing.
+use mathlib.Core.Bool.{Bool, true, false, cond, _&&_, _||_}
+use mathlib.Core.List.{List, [], _∷_, _++_}
+use Prim.Native.Nat.{ℕ, zero, suc, _*_, _^_}
+use lib.ListN.{getD, take, drop}
+use Rattle.sets.specs.Set.{isMember, union}
+use Rattle.system.specs.System.{System}
+
+abbrev pub any : List Bool → Bool
+any [] = false
+any (b ∷ bs) = b || any bs
+
+abbrev pub all : List Bool → Bool
+all [] = true
+all (b ∷ bs) = b && all bs
+
+-- a line's value, by its kind, from the bits of its operands
+abbrev pub valueOf : ℕ → List Bool → Bool
+valueOf zero bits = any bits
+valueOf (suc k) bits = all bits
+
+-- the bits, in the argument x, of those of the first m lines that the word w selects
+unfoldable pub selected : ℕ → ℕ → ℕ → List Bool
+selected zero w x = []
+selected (suc m) w x = cond (isMember w m) (isMember x m ∷ selected m w x) (selected m w x)
+
+-- the bits of a line's operands: its words and the arguments are both level 1 first, and operand (k, j) is bit j of the k-th argument
+unfoldable pub operands : List ℕ → List ℕ → List Bool
+operands [] xs = []
+operands (w ∷ ws) [] = []
+operands (w ∷ ws) (x ∷ xs) = selected 64 w x ++ operands ws xs
+
+-- the words of line i
+abbrev pub wordsOf : System → ℕ → List ℕ
+wordsOf m i = take (m .levels) (drop (i * m .levels) (m .words))
+
+-- the set of those of the first n lines of which p holds
+unfoldable pub setOf : ℕ → (ℕ → Bool) → ℕ
+setOf zero p = 0
+setOf (suc n) p = union (setOf n p) (cond (p n) (2 ^ n) 0)
+
+-- F
+unfoldable pub query : System → List ℕ → ℕ
+query m xs = setOf (m .lines) (λ i. valueOf (getD (m .kinds) i 0) (operands (wordsOf m i) xs))

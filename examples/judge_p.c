@@ -1,0 +1,67 @@
+/* Writes the file of a small model, reads it back, and judges it in each of the three ways.
+ *
+ *   rt staticlib solver_c
+ *   cc -std=c99 -I include examples/judge_p.c target/staticlib/libsolver_c.a -o judge_p && ./judge_p
+ */
+#include <inttypes.h>
+#include <stdio.h>
+
+#include "solver.h"
+
+/* The six words of an answer, in their order. */
+enum { NUMBER, SET, COUNT, LENGTH, LINES, LEVELS, WORDS };
+
+static void show_judged(const char *what, const uint64_t answer[WORDS]) {
+    if (answer[NUMBER] != 0) {
+        printf("%s: refused %" PRIu64 "\n", what, answer[NUMBER]);
+    } else {
+        printf("%s: set %" PRIu64 ", count %" PRIu64 "\n", what, answer[SET], answer[COUNT]);
+    }
+}
+
+int main(void) {
+    /* Model P: two lines, two levels. Level 1 is least, level 2 greatest. Line 0 is all of (level 1, line 1), line 1 is any of (level 2, line 0). */
+    const uint8_t signs[2] = {0, 1};
+    const uint8_t kinds[2] = {1, 0};
+    const uint64_t words[4] = {1 << 1, 0, 0, 1 << 0};
+    uint8_t file[64];
+    uint64_t answer[WORDS];
+
+    solver_write(2, 2, signs, 2, kinds, 2, words, 4, file, sizeof file, answer);
+    if (answer[NUMBER] != 0) {
+        printf("written: refused %" PRIu64 "\n", answer[NUMBER]);
+        return 1;
+    }
+    size_t length = answer[LENGTH];
+    printf("written: %zu bytes\n", length);
+
+    uint8_t signs_read[8];
+    uint8_t kinds_read[64];
+    uint64_t words_read[512];
+    solver_read(file, length, signs_read, 8, kinds_read, 64, words_read, 512, answer);
+    printf("read: %" PRIu64 " lines, %" PRIu64 " levels, line 0 selects %" PRIu64 " at level 1\n", answer[LINES], answer[LEVELS], words_read[0]);
+
+    /* No line at level 1, both at level 2. */
+    const uint64_t arguments[2] = {0, 3};
+    solver_query(file, length, arguments, 2, answer);
+    printf("one query: set %" PRIu64 "\n", answer[SET]);
+
+    /* From no line to both, which is 3. */
+    solver_plain(file, length, 0, 3, 1000, answer);
+    show_judged("plainly", answer);
+    solver_plain(file, length, 0, 3, 2, answer);
+    show_judged("plainly with 2 queries", answer);
+    solver_built(file, length, 0, 3, answer);
+    show_judged("by built-in trees", answer);
+
+    /* A tree of height 1 with two leaves has one gap, of 1; a tree with one leaf has none. */
+    const uint8_t two_leaves[1] = {1};
+    solver_lent(file, length, 0, 3, two_leaves, 0, two_leaves, 0, answer);
+    show_judged("by trees of one leaf", answer);
+    solver_lent(file, length, 0, 3, two_leaves, 1, two_leaves, 0, answer);
+    show_judged("by trees of two leaves and of one", answer);
+
+    solver_leaf_count(8, 2, answer);
+    printf("leaves for 8 lines, height 2: %" PRIu64 "\n", answer[COUNT]);
+    return 0;
+}

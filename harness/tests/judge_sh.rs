@@ -1,0 +1,131 @@
+//! `judge.sh` runs no program that is older than its sources. It is copied to a folder of its own, where a script stands for `rt`:
+//! what it builds prints "new", and the program that is there beforehand prints "old".
+
+use std::fs::{self, File, Permissions};
+use std::os::unix::fs::PermissionsExt;
+use std::path::{Path, PathBuf};
+use std::process::{Command, Output};
+use std::time::{Duration, SystemTime};
+
+struct Copy {
+    folder: PathBuf,
+}
+
+fn write_script(path: &Path, text: &str) {
+    fs::write(path, text).expect("it is written");
+    fs::set_permissions(path, Permissions::from_mode(0o755)).expect("it is ours");
+}
+
+/// Sets when a file or a folder was last changed: some seconds after (or before) the program was built.
+fn set_age(path: &Path, seconds: i64) {
+    let built = SystemTime::now() - Duration::from_secs(1000);
+    let shift = Duration::from_secs(seconds.unsigned_abs());
+    let time = if seconds < 0 { built - shift } else { built + shift };
+    File::open(path).and_then(|file| file.set_modified(time)).expect("it is there");
+}
+
+impl Copy {
+    /// A program newer than all of its sources, and an `rt` that builds another one.
+    fn new(name: &str) -> Copy {
+        let folder = std::env::temp_dir().join(format!("judge_sh_{name}_{}", std::process::id()));
+        let _ = fs::remove_dir_all(&folder);
+        for part in ["crates/judge/src", "target/bin", "bin"] {
+            fs::create_dir_all(folder.join(part)).expect("it is made");
+        }
+        fs::copy(concat!(env!("CARGO_MANIFEST_DIR"), "/../judge.sh"), folder.join("judge.sh")).expect("it is there");
+        fs::write(folder.join("crates.txt"), "judge:\n").expect("it is written");
+        fs::write(folder.join("crates/judge/src/main.rt"), "fn main() {}\n").expect("it is written");
+        fs::write(folder.join("a.model"), "").expect("it is written");
+        write_script(&folder.join("target/bin/judge"), "#!/bin/sh\necho old\n");
+        write_script(
+            &folder.join("bin/rt"),
+            "#!/bin/sh\n[ \"$*\" = 'check judge' ] || exit 9\nprintf '#!/bin/sh\\necho new\\n' >target/bin/judge\nchmod +x target/bin/judge\n",
+        );
+        let copy = Copy { folder };
+        for path in ["crates.txt", "crates", "crates/judge", "crates/judge/src", "crates/judge/src/main.rt"] {
+            copy.age(path, -10);
+        }
+        copy.age("target/bin/judge", 0);
+        copy
+    }
+
+    fn age(&self, path: &str, seconds: i64) {
+        set_age(&self.folder.join(path), seconds);
+    }
+
+    fn run(&self) -> Output {
+        let path = format!("{}:{}", self.folder.join("bin").display(), std::env::var("PATH").expect("there is one"));
+        Command::new(self.folder.join("judge.sh"))
+            .arg(self.folder.join("a.model"))
+            .env("PATH", path)
+            .output()
+            .expect("it ran")
+    }
+
+    fn prints(&self, program: &str, says: &str) {
+        let output = self.run();
+        assert!(output.status.success());
+        assert_eq!(String::from_utf8_lossy(&output.stdout), format!("{program}\n"));
+        let said = String::from_utf8_lossy(&output.stderr).into_owned();
+        assert!(if says.is_empty() { said.is_empty() } else { said.contains(says) }, "it said: {said}");
+    }
+}
+
+impl Drop for Copy {
+    fn drop(&mut self) {
+        let _ = fs::remove_dir_all(&self.folder);
+    }
+}
+
+#[test]
+fn a_program_newer_than_its_sources_is_run_as_it_is() {
+    Copy::new("newer").prints("old", "");
+}
+
+#[test]
+fn a_missing_program_is_built() {
+    let copy = Copy::new("missing");
+    fs::remove_file(copy.folder.join("target/bin/judge")).expect("it was there");
+    copy.prints("new", "since it is missing");
+}
+
+#[test]
+fn a_newer_source_has_it_built_again_once() {
+    for source in ["crates.txt", "crates/judge/src/main.rt", "crates/judge/src"] {
+        let copy = Copy::new(&source.replace('/', "_"));
+        copy.age(source, 10);
+        copy.prints("new", &format!("since {source} is newer"));
+        copy.prints("new", "");
+    }
+}
+
+/// `rt` leaves a program as it is where the newer file is none of its own; that, too, is asked once.
+#[test]
+fn a_program_that_rt_leaves_is_as_new_as_the_check() {
+    let copy = Copy::new("left");
+    write_script(&copy.folder.join("bin/rt"), "#!/bin/sh\nexit 0\n");
+    copy.age("crates.txt", 10);
+    copy.prints("old", "since crates.txt is newer");
+    copy.prints("old", "");
+}
+
+/// A source that changes while the program is built is newer than the program.
+#[test]
+fn a_source_changed_meanwhile_has_it_built_again() {
+    let copy = Copy::new("meanwhile");
+    write_script(&copy.folder.join("bin/rt"), "#!/bin/sh\nsleep 0.05\ntouch crates.txt\nsleep 0.05\ntouch target/bin/judge\n");
+    copy.age("crates.txt", 10);
+    copy.prints("old", "since crates.txt is newer");
+    copy.prints("old", "since crates.txt is newer");
+}
+
+#[test]
+fn nothing_is_judged_where_the_program_is_not_proved() {
+    let copy = Copy::new("not_proved");
+    write_script(&copy.folder.join("bin/rt"), "#!/bin/sh\nexit 1\n");
+    copy.age("crates.txt", 10);
+    let output = copy.run();
+    assert_eq!(output.status.code(), Some(1));
+    assert!(output.stdout.is_empty());
+    assert!(String::from_utf8_lossy(&output.stderr).contains("nothing is judged"));
+}
