@@ -2,15 +2,16 @@
 ghost use mathlib.Core.Path.{_≡_};
 ghost use Rattle.answers.specs.Answer.{refusal, numberOf};
 ghost use Rattle.trees.specs.Count.{countedAnswer};
-ghost use Rattle.model.specs.Says.{readingAnswer, writtenAnswer};
+ghost use Rattle.model.specs.Says.{readingAnswer};
+ghost use Rattle.writer.specs.Says.{writtenAnswer};
 ghost use Rattle.solver.specs.Says.{queriedAnswer, judgedAnswer};
 ghost use Rattle.answer_c.specs.Words.{sixWords};
 use answers::Refusal;
 use model::Reading;
-use model::Written;
 use solver::Judged;
 use solver::Queried;
 use trees::LeafCount;
+use writer::Written;
 
 fn put_refused(answer: &mut [u64; 6], e: Refusal)
     ensures { λ _. ⌜ now (answer .exit) ≡ sixWords (refusal (numberOf e)) ⌝ }

@@ -1,13 +1,13 @@
 -- The first check that applies: checks of which none applies are passed over, and checks of which one applies decide.
 -- Assumes nothing.
-use mathlib.Core.Bool.{Bool, true, false, cond, _&&_, and-eq-true-iff}
+use mathlib.Core.Bool.{Bool, true, false, cond, not, _&&_, and-eq-true-iff}
 use mathlib.Mathlib.Data.Bool.Basic.{or-eq-false-eq-eq-false-and-eq-false as neither}
 use mathlib.Core.List.{List, [], _∷_, _++_}
-use mathlib.Core.Path.{_≡_, refl}
+use mathlib.Core.Path.{_≡_, refl, ap}
 use Prim.Native.Nat.{ℕ, zero, suc, _≤_, _<_}
 use native.Mathlib.Omega.{arith}
 use lib.Dec.{eqb, ltb, lit<}
-use borrow.Author.Tests.{ltb-true, ltb-false, eqb-false}
+use borrow.Author.Tests.{ltb-true, ltb-false, eqb-true, eqb-false, eq-eqb, not-false}
 use Rattle.answers.specs.Answer.{Answer, refusal, numberOf}
 use Rattle.answers.specs.Check.{Check, firstOf, unless, outside}
 use Rattle.answers.specs.declared.Refusal.{Refusal}
@@ -23,6 +23,10 @@ passes-both [] ds h = (tt, h)
 passes-both (c ∷ cs) ds h =
     let both = passes-both cs ds (h .1) in
     ((h .0, both .0), both .1)
+
+pub passes-append : (cs ds : List Check) → Passes cs → Passes ds → Passes (cs ++ ds)
+passes-append [] ds h k = k
+passes-append (c ∷ cs) ds h k = (h .0, passes-append cs ds (h .1) k)
 
 -- none of their numbers is 0
 abbrev pub numbered : List Check → Bool
@@ -67,6 +71,13 @@ inside most n h =
     let both = neither (eqb n 0) (ltb most n) .0 h in
     let nonzero : n ≡ 0 → ⊥ = eqb-false n 0 (both .0) in
     (omega arith, ltb-false most n (both .1))
+
+-- a test for two numbers that differ
+pub same : {a b : ℕ} → not (eqb a b) ≡ false → a ≡ b
+same {a} {b} h = eqb-true a b (not-false (eqb a b) h)
+
+pub unlike : {a b : ℕ} → a ≡ b → not (eqb a b) ≡ false
+unlike {a} {b} h = ap not (eq-eqb a b h)
 
 -- an answer with a number other than 0 is the refusal with it
 pub unless-refused : {e : ℕ} (a : Answer) → 0 < e → unless e a ≡ refusal e

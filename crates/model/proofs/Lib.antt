@@ -3,8 +3,4 @@ pub mod Searches
 pub mod Lines
 pub mod Places
 pub mod Refusals
-pub mod Accepted
 pub mod RoundTrip
-pub mod Passed
-pub mod Outcome
-pub mod ReadBack

@@ -11,8 +11,7 @@ use lib.Seq.{drop-drop, getD-take, getD-drop}
 use Rattle.system.specs.Query.{valueOf, operands, wordsOf}
 use Rattle.numbers.specs.Numbers.{numberAt, wordsFrom}
 use Rattle.model.specs.File.{kindsAt, wordsAt, sections}
-use Rattle.numbers.proofs.Codec.{words-length}
-use Rattle.numbers.proofs.Codec.{word-at}
+use Rattle.numbers.proofs.Codec.{words-length, word-at}
 use Rattle.model.proofs.Lines.{words-of}
 
 pub line-kind : (n d : ℕ) (file : List ℕ) (i : ℕ) → i < n → getD (sections n d file .kinds) i 0 ≡ getD file (kindsAt d + i) 0

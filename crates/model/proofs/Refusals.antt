@@ -8,7 +8,7 @@ use Rattle.answers.specs.Answer.{Answer, refusal, numberOf}
 use Rattle.answers.specs.Check.{Check, firstOf, unless}
 use Rattle.answers.specs.declared.Refusal.{Refusal}
 use Rattle.answers.proofs.Checks.{first-before, unless-refused, number-positive}
-use Rattle.model.specs.Says.{readingAnswer, sized}
+use Rattle.model.specs.Says.{readingAnswer, sized, filled}
 use Rattle.model.specs.declared.layout.Model.{Model}
 use Rattle.model.specs.declared.layout.Reading.{Reading}
 use Rattle.model.specs.declared.layout.Reading.the-variants.{Accepted, Refused}
@@ -17,6 +17,10 @@ use Rattle.model.specs.declared.layout.Reading.the-variants.{Accepted, R
 pub unless-number : (e : ℕ) (a : Answer) → a .number ≡ 0 → unless e a .number ≡ e
 unless-number zero a h = h
 unless-number (suc e) a h = refl
+
+-- the number of an operation that accepts
+pub none-of : (e : ℕ) (a b : Answer) → a ≡ unless e b → b .number ≡ 0 → a .number ≡ 0 → e ≡ 0
+none-of e a b says clear ok = sym (unless-number e b clear) ∙ ap (λ (x : Answer). x .number) (sym says) ∙ ok
 
 -- what an answer with the number e, and the counts n and d where e is 0, says in each case
 pub record AcceptedAs (e n d : ℕ) (m : Model) : Type 0 where
@@ -50,3 +54,8 @@ module _ (e n d : ℕ) {a : Reading} (h : readingAnswer a ≡ unless e (sized n 
 
   pub refused-as : {r : Refusal} → a ≡ Refused r → RefusedAs e r
   refused-as {r} p = refused-by r (sym (ap (λ (x : Answer). x .number) (ap readingAnswer (sym p) ∙ h) ∙ unless-number e (sized n d) refl))
+
+-- a number other than 0 leaves a lent list as it was
+pub filled-refused : {e : ℕ} (new old : List ℕ) → 0 < e → old ≡ filled e new old
+filled-refused {e = zero} new old h = absurd (omega arith)
+filled-refused {e = suc e} new old h = refl

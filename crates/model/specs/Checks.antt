@@ -1,16 +1,13 @@
--- What the operations on a model turn down, in document 01's order.
+-- What is wrong with counts and with the contents of a system, in document 01's order: the checks that checking a file and writing one share.
 -- Assumes nothing.
 use mathlib.Core.Bool.{Bool, false, not, _||_}
-use mathlib.Core.List.{List, [], _∷_, _++_}
-use Prim.Native.Nat.{ℕ, zero, suc, _*_}
-use lib.Dec.{eqb, ltb}
-use lib.ListN.{length}
-use Rattle.answers.specs.Check.{Check, _if_, firstOf, outside}
+use mathlib.Core.List.{List, [], _∷_}
+use Prim.Native.Nat.{ℕ, zero, suc}
+use lib.Dec.{ltb}
+use Rattle.answers.specs.Check.{Check, _if_, outside}
 use Rattle.sets.specs.Set.{full, isWithin}
 use Rattle.system.specs.System.{System}
 use Rattle.system.specs.Query.{wordsOf}
-use Rattle.model.specs.File.{signsAt, kindsAt, wordsAt, fileLength, linesIn, levelsIn, decode}
-use Rattle.numbers.specs.Numbers.{numberAt}
 
 -- whether p holds of one of some numbers
 abbrev pub some : (ℕ → Bool) → List ℕ → Bool
@@ -41,45 +38,3 @@ contentChecks m =
     7 if some (strays (m .lines)) (m .words) ∷
     8 if someBelow (m .lines) (idle m) ∷
     []
-
--- 4 and 5: a wrong offset, a wrong length
-abbrev pub layoutChecks : List ℕ → List Check
-layoutChecks file =
-    4 if not (eqb (numberAt file 4 4) signsAt) ∷
-    4 if not (eqb (numberAt file 8 4) (kindsAt (levelsIn file))) ∷
-    4 if not (eqb (numberAt file 12 4) (wordsAt (linesIn file) (levelsIn file))) ∷
-    5 if not (eqb (length file) (fileLength (linesIn file) (levelsIn file))) ∷
-    []
-
--- 1 to 5: too short for a header, the counts, the layout
-abbrev pub headerChecks : List ℕ → List Check
-headerChecks file = 1 if ltb (length file) 16 ∷ (countChecks (linesIn file) (levelsIn file) ++ layoutChecks file)
-
--- 1 to 8: what a file is turned down for, whatever it is to be used for
-abbrev pub fileChecks : List ℕ → List Check
-fileChecks file = headerChecks file ++ contentChecks (decode file)
-
--- the number with which checking refuses, or 0
-unfoldable pub fileNumber : List ℕ → ℕ
-fileNumber file = firstOf (fileChecks file)
-
--- 12, for slices of these lengths that are to hold the signs, kinds and words of a file
-abbrev pub roomChecks : List ℕ → ℕ → ℕ → ℕ → List Check
-roomChecks file s k w = 12 if ltb s (levelsIn file) ∷ 12 if ltb k (linesIn file) ∷ 12 if ltb w (linesIn file * levelsIn file) ∷ []
-
--- the number with which reading into slices of these lengths refuses, or 0
-unfoldable pub readNumber : List ℕ → ℕ → ℕ → ℕ → ℕ
-readNumber file s k w = firstOf (fileChecks file ++ roomChecks file s k w)
-
--- 13, for the slices of a system
-abbrev pub sliceChecks : System → List Check
-sliceChecks m =
-    13 if not (eqb (length (m .signs)) (m .levels)) ∷
-    13 if not (eqb (length (m .kinds)) (m .lines)) ∷
-    13 if not (eqb (length (m .words)) (m .lines * m .levels)) ∷
-    []
-
--- the number with which writing into a buffer of this length refuses, or 0
-unfoldable pub writeNumber : System → ℕ → ℕ
-writeNumber m room =
-    firstOf (countChecks (m .lines) (m .levels) ++ (sliceChecks m ++ (contentChecks m ++ (12 if ltb room (fileLength (m .lines) (m .levels)) ∷ []))))

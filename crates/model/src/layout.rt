@@ -1,4 +1,4 @@
-// The model's type, its limits, where the sections of its file begin, and what reading and writing answer.
+// The model's type, its limits, where the sections of its file begin, and what reading answers.
 ghost use mathlib.Core.Path.{_≡_};
 ghost use Prim.Native.Nat.{_≤_};
 ghost use Rattle.answers.specs.Check.{firstOf, unless};
@@ -16,12 +16,6 @@ pub struct Model {
 // What checking and reading answer.
 pub enum Reading {
     Accepted(Model),
-    Refused(Refusal),
-}
-
-// What writing answers.
-pub enum Written {
-    Length(usize),
     Refused(Refusal),
 }
 

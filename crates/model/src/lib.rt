@@ -1,9 +1,8 @@
-// A model's type, the layout of its file, and what checking, reading and writing are to do. Definitions: specs/.
+// A model's type and limits, the layout of its file, and searches that several operations share. Definitions: specs/.
 mod layout;
 mod search;
 
 pub use layout::Model;
 pub use layout::Reading;
-pub use layout::Written;
 pub use search::one_strays;
 pub use search::over_one;

@@ -1,5 +1,5 @@
 // Reading a file into lent slices.
-ghost use Rattle.model.specs.Says.{ReadSays};
+ghost use Rattle.reader.specs.Says.{ReadSays};
 use answers::Refusal;
 use checker::check;
 use model::Model;

@@ -13,10 +13,10 @@ use Rattle.answers.specs.declared.Refusal.{Refusal}
 use Rattle.sets.specs.Set.{full}
 use Rattle.sets.proofs.Order.{refl⊑, empty-least, le-within}
 use Rattle.model.specs.File.{linesIn, decode}
-use Rattle.model.specs.Checks.{fileNumber}
+use Rattle.checker.specs.Checks.{fileNumber}
 use Rattle.model.specs.declared.layout.Model.{Model}
 use Rattle.model.proofs.Refusals.{RefusedAs}
-use Rattle.model.proofs.Accepted.{Checked, after-file}
+use Rattle.checker.proofs.Accepted.{Checked, after-file}
 use Rattle.solver.specs.Checks.{misplaced, builtNumber}
 use Rattle.solver.specs.Says.{judgedAnswer, PlainSays, BuiltSays}
 use Rattle.solver.specs.declared.Judged.{Judged}

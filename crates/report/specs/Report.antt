@@ -8,7 +8,7 @@ use lib.ListN.{length}
 use Rattle.answers.specs.Answer.{Answer}
 use Rattle.sets.specs.Set.{full, members}
 use Rattle.model.specs.File.{decode}
-use Rattle.model.specs.Checks.{fileNumber}
+use Rattle.checker.specs.Checks.{fileNumber}
 use Rattle.solver.specs.Says.{plainAnswer, builtAnswer}
 use Rattle.text.specs.Text.{hex, decimal, shareOf}
 

@@ -17,13 +17,13 @@ use Rattle.fixpoint.specs.Sets.{sets}
 use Rattle.fixpoint.proofs.Sets.{sets-range}
 use Rattle.system.specs.System.{System}
 use Rattle.model.specs.File.{linesIn, levelsIn, decode}
-use Rattle.model.specs.Checks.{fileChecks, fileNumber}
+use Rattle.checker.specs.Checks.{fileChecks, fileNumber}
 use Rattle.model.specs.Says.{readingAnswer, sized}
 use Rattle.model.specs.declared.layout.Model.{Model}
 use Rattle.model.specs.declared.layout.Reading.{Reading}
 use Rattle.model.specs.declared.layout.Reading.the-variants as reading
 use Rattle.model.proofs.Refusals.{AcceptedAs, RefusedAs, accepted-as, refused-as}
-use Rattle.model.proofs.Accepted.{accepted, decoded, limits, room}
+use Rattle.checker.proofs.Accepted.{accepted, decoded, limits, room}
 use Rattle.model.specs.Held.{Held, systemIn}
 use Rattle.view.specs.View.{InUse}
 use Rattle.solver.specs.Checks.{misplaced, boundChecks, builtNumber}

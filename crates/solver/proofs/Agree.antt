@@ -8,7 +8,7 @@ use native.Mathlib.Omega.{arith}
 use borrow.Author.Tests.{lt-ltb}
 use Rattle.fixpoint.proofs.Plain.{plain-positive}
 use Rattle.model.specs.File.{decode}
-use Rattle.model.proofs.ReadBack.{none-of}
+use Rattle.model.proofs.Refusals.{none-of}
 use Rattle.routes.specs.Routes.{plainRun}
 use Rattle.solver.specs.Checks.{builtNumber, plainNumber}
 use Rattle.solver.specs.Says.{judgedAnswer, PlainSays, BuiltSays}

@@ -8,7 +8,8 @@ use lib.ListN.{length}
 use Rattle.answers.specs.Check.{Check, _if_, firstOf, outside}
 use Rattle.sets.specs.Set.{isWithin}
 use Rattle.model.specs.File.{linesIn, levelsIn, decode}
-use Rattle.model.specs.Checks.{some, strays, fileChecks}
+use Rattle.model.specs.Checks.{some, strays}
+use Rattle.checker.specs.Checks.{fileChecks}
 use Rattle.routes.specs.Routes.{leastLevels, greatestLevels, plainRun}
 
 -- 13: not as many arguments as levels; 9: an argument with a line of n or more

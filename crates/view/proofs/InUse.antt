@@ -8,7 +8,7 @@ use denote.Ref.{RefT, now}
 use Rattle.model.specs.File.{linesIn, levelsIn, decode}
 use Rattle.model.specs.declared.layout.Model.{Model}
 use Rattle.model.specs.declared.layout.Reading.the-variants as reading
-use Rattle.model.proofs.Accepted.{checked}
+use Rattle.checker.proofs.Accepted.{checked}
 use Rattle.model.specs.Held.{Held, systemIn}
 use Rattle.routes.specs.Parts.{LineCount}
 use Rattle.view.specs.View.{InUse}

@@ -4,7 +4,8 @@ use mathlib.Core.List.{List}
 use mathlib.Core.Path.{_≡_}
 use Prim.Native.Nat.{ℕ}
 use Rattle.system.specs.System.{System}
-use Rattle.model.specs.Says.{checkAnswer, sized}
+use Rattle.checker.specs.Checks.{checkAnswer}
+use Rattle.model.specs.Says.{sized}
 use Rattle.routes.specs.Parts.{Lent, Gives}
 use Rattle.plain_route.specs.Under.{under}
 use Rattle.routes.specs.Routes.{leastLevels, greatestLevels, builtLeast, builtGreatest, plainRun, restrictedSet, restrictedCount}

@@ -1,8 +1,8 @@
 -- `answer_c::put_written` meets its contract: the words of each case.
 -- Assumes nothing.
 use mathlib.Core.Path.{sym, ap, _∙_}
-use Rattle.model.specs.declared.layout.Written.{Written}
-use Rattle.model.specs.Says.{writtenAnswer}
+use Rattle.writer.specs.declared.Written.{Written}
+use Rattle.writer.specs.Says.{writtenAnswer}
 use Rattle.answer_c.specs.Words.{sixWords}
 use borrow.Author.Needs.{needs}
 use Rattle.answer_c.proofs.put_written.Statement.{statement}

@@ -12,12 +12,13 @@ use Rattle.answers.specs.Check.{firstOf, unless}
 use Rattle.answers.proofs.Checks.{Passes, first-after, first-before, none-first}
 use Rattle.system.specs.System.{System}
 use Rattle.model.specs.File.{signsAt, fileLength, linesIn, levelsIn, decode}
-use Rattle.model.specs.Checks.{some, someBelow, strays, idle, headerChecks, contentChecks, fileNumber}
+use Rattle.model.specs.Checks.{some, someBelow, strays, idle, contentChecks}
+use Rattle.checker.specs.Checks.{headerChecks, fileNumber}
 use Rattle.model.specs.Says.{sized}
 use Rattle.model.specs.declared.layout.Model.{Model}
 use Rattle.model.proofs.Refusals.{AcceptedAs, accepted-as, refused-as}
 use Rattle.model.proofs.Lines.{some-bytes}
-use Rattle.model.proofs.Accepted.{Headed, headed, decoded, limits, room}
+use Rattle.checker.proofs.Accepted.{Headed, headed, decoded, limits, room}
 use Rattle.checker.proofs.check.Statement.{statement}
 use Rattle.checker.proofs.check.Tie as tie
 

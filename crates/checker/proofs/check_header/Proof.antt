@@ -13,7 +13,8 @@ use Rattle.answers.specs.Check.{_if_, firstOf, unless}
 use Rattle.answers.proofs.Checks.{Passes, first-after, first-before, none-first, inside}
 use Rattle.model.specs.File.{signsAt, kindsAt, wordsAt, linesIn, levelsIn}
 use Rattle.numbers.specs.Numbers.{numberAt}
-use Rattle.model.specs.Checks.{countChecks, layoutChecks, headerChecks}
+use Rattle.model.specs.Checks.{countChecks}
+use Rattle.checker.specs.Checks.{layoutChecks, headerChecks}
 use Rattle.model.specs.Says.{readingAnswer, sized}
 use Rattle.model.specs.declared.layout.Model.{Model}
 use Rattle.model.proofs.Refusals.{AcceptedAs, accepted-as, refused-as}

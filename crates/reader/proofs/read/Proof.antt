@@ -12,16 +12,16 @@ use borrow.Author.Tests.{lt-ltb, le-ltb}
 use Rattle.answers.specs.Check.{Check, firstOf}
 use Rattle.answers.specs.declared.Refusal.the-variants.{Room}
 use Rattle.model.specs.File.{linesIn, levelsIn}
-use Rattle.model.specs.Checks.{fileChecks, fileNumber, roomChecks, readNumber}
-use Rattle.model.specs.Says.{ReadSays}
+use Rattle.checker.specs.Checks.{fileChecks, fileNumber}
+use Rattle.reader.specs.Says.{roomChecks, readNumber, ReadSays}
 use Rattle.model.specs.declared.layout.Model.{Model}
 use Rattle.model.specs.declared.layout.Reading.the-variants as reading
 use Rattle.model.proofs.Sizes.{few-words}
 use Rattle.lists.proofs.Front.{rest-whole, part-copied}
 use Rattle.numbers.proofs.Codec.{words-copied}
 use Rattle.model.proofs.Refusals.{refused-by, refused-before}
-use Rattle.model.proofs.Accepted.{Checked, checked, refused, after-file}
-use Rattle.model.proofs.Outcome.{read-refused, read-accepted}
+use Rattle.checker.proofs.Accepted.{Checked, checked, refused, after-file}
+use Rattle.reader.proofs.Outcome.{read-refused, read-accepted}
 use Rattle.reader.proofs.read.Statement.{statement}
 use Rattle.reader.proofs.read.Tie as tie
 

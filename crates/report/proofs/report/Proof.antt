@@ -7,7 +7,7 @@ use native.Mathlib.Omega.{arith}
 use borrow.Author.Tests.{lt-ltb, le-ltb}
 use denote.Ref.{now}
 use lib.ListN.{length}
-use Rattle.model.proofs.Accepted.{Checked, checked, refused}
+use Rattle.checker.proofs.Accepted.{Checked, checked, refused}
 use Rattle.solver.specs.Says.{judgedAnswer}
 use Rattle.text.proofs.Digits.{puts-then}
 use Rattle.report.proofs.Lines.{answer-few}

@@ -7,10 +7,10 @@ use Prim.Native.Nat.{ℕ}
 use denote.Ref.{now}
 use Rattle.answers.specs.Check.{_if_}
 use Rattle.model.specs.File.{linesIn}
-use Rattle.model.specs.Checks.{fileChecks, fileNumber}
+use Rattle.checker.specs.Checks.{fileChecks, fileNumber}
 use Rattle.model.specs.Says.{readingAnswer, sized}
 use Rattle.model.proofs.Refusals.{refused-before, refused-answer}
-use Rattle.model.proofs.Accepted.{Checked, checked, refused, after-file}
+use Rattle.checker.proofs.Accepted.{Checked, checked, refused, after-file}
 use Rattle.solver.specs.Checks.{misplaced, builtNumber}
 use borrow.Author.Needs.{needs}
 use Rattle.solver.proofs.admit.Statement.{statement}

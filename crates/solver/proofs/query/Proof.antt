@@ -12,11 +12,12 @@ use lib.ListN.{length}
 use Rattle.answers.specs.Check.{firstOf}
 use Rattle.model.specs.File.{levelsIn, decode}
 use Rattle.system.specs.Query as spec
-use Rattle.model.specs.Checks.{some, strays, fileChecks, fileNumber}
+use Rattle.model.specs.Checks.{some, strays}
+use Rattle.checker.specs.Checks.{fileChecks, fileNumber}
 use Rattle.model.specs.Says.{readingAnswer}
 use Rattle.model.specs.declared.layout.Model.{Model}
 use Rattle.model.proofs.Refusals.{refused-before, refused-answer}
-use Rattle.model.proofs.Accepted.{Checked, checked, refused, after-file}
+use Rattle.checker.proofs.Accepted.{Checked, checked, refused, after-file}
 use Rattle.solver.specs.Checks.{argumentChecks, queryNumber}
 use Rattle.solver.specs.Says.{valued}
 use Rattle.solver.proofs.query.Statement.{statement}

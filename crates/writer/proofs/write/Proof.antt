@@ -17,15 +17,15 @@ use Rattle.answers.specs.declared.Refusal.{Refusal}
 use Rattle.answers.specs.declared.Refusal.the-variants.{SignOrKind, StraySelection, NoOperand, Room, SliceLength}
 use Rattle.system.specs.System.{System, systemOf}
 use Rattle.model.specs.File.{fileLength}
-use Rattle.model.specs.Checks.{some, strays, countChecks, contentChecks, sliceChecks, writeNumber}
-use Rattle.model.specs.Says.{WriteSays}
+use Rattle.model.specs.Checks.{some, strays, countChecks, contentChecks}
+use Rattle.writer.specs.Says.{sliceChecks, writeNumber, WriteSays}
 use Rattle.model.specs.declared.layout.Model.{Model}
-use Rattle.model.specs.declared.layout.Written.the-variants as written
+use Rattle.writer.specs.declared.Written.the-variants as written
 use Rattle.model.proofs.Sizes.{few-words}
 use Rattle.model.proofs.Refusals.{AcceptedAs, accepted-as, refused-as, refused-by, refused-before}
 use Rattle.model.proofs.RoundTrip.{Sliced}
-use Rattle.model.proofs.Passed.{bufferChecks, fromContents, fromSlices, sliced-passes, passes-write}
-use Rattle.model.proofs.Outcome.{write-refused, write-accepted}
+use Rattle.writer.proofs.Passed.{bufferChecks, fromContents, fromSlices, sliced-passes, passes-write}
+use Rattle.writer.proofs.Outcome.{write-refused, write-accepted}
 use Rattle.writer.proofs.write.Statement.{statement}
 use Rattle.writer.proofs.write.Tie as tie
 

@@ -12,19 +12,20 @@ use lib.Seq.{length-take-le}
 use borrow.Author.Tests.{ltb-false, eqb-true, not-false}
 use Rattle.answers.specs.Check.{Check, firstOf}
 use Rattle.answers.proofs.Checks.{Passes, passes-both, none-first, after-none, inside}
 use Rattle.model.specs.File.{linesIn, levelsIn, fileLength, sections, decode}
 use Rattle.system.specs.Query.{wordsOf}
-use Rattle.model.specs.Checks.{some, strays, idle, headerChecks, contentChecks, fileChecks, fileNumber}
-use Rattle.model.specs.Says.{readingAnswer, checkAnswer}
+use Rattle.model.specs.Checks.{some, strays, idle, contentChecks}
+use Rattle.checker.specs.Checks.{headerChecks, fileChecks, fileNumber, checkAnswer}
+use Rattle.model.specs.Says.{readingAnswer}
 use Rattle.answers.specs.declared.Refusal.{Refusal}
 use Rattle.model.specs.declared.layout.Model.{Model}
 use Rattle.model.specs.declared.layout.Reading.{Reading}
 use Rattle.model.specs.declared.layout.Reading.the-variants as reading
 use Rattle.sets.proofs.Order.{within-le}
 use Rattle.sets.proofs.Range.{full-below}
 use Rattle.model.proofs.Searches.{false-below, false-some}
 use Rattle.numbers.proofs.Codec.{words-length}
 use Rattle.model.proofs.Refusals.{AcceptedAs, RefusedAs, accepted-as, refused-as}
 
 -- the counts, and the length that they give
 pub record Headed (file : List ℕ) : Type 0 where

@@ -1,4 +1,4 @@
--- `writer::put_header` meets its contract: each number is written behind those before it.
+-- `encoder::put_header` meets its contract: each number is written behind those before it.
 -- Assumes nothing.
 use mathlib.Core.List.{_++_}
 use mathlib.Core.Path.{refl, _∙_, ap₂}
@@ -8,8 +8,8 @@ use denote.Ref.{now}
 use Rattle.numbers.specs.Numbers.{bytesOf}
 use Rattle.lists.proofs.Front.{front-part}
 use borrow.Author.Needs.{needs}
-use Rattle.writer.proofs.put_header.Statement.{statement}
-use Rattle.writer.proofs.put_header.Tie as tie
+use Rattle.encoder.proofs.put_header.Statement.{statement}
+use Rattle.encoder.proofs.put_header.Tie as tie
 
 put-number-requires : tie.Need-put-number-requires
 put-number-requires c κs = search needs

@@ -1,4 +1,4 @@
--- `writer::put_file` meets its contract: each section is written behind those before it.
+-- `encoder::put_file` meets its contract: each section is written behind those before it.
 -- Assumes nothing.
 use mathlib.Core.List.{_++_, append-assoc}
 use mathlib.Core.Path.{_≡_, refl, _∙_, ap}
@@ -10,8 +10,8 @@ use Rattle.model.specs.File.{fileLength, headerBytes, encode}
 use Rattle.numbers.specs.Numbers.{bytesOf, wordBytes}
 use Rattle.lists.proofs.Front.{front-part, all-copied}
 use borrow.Author.Needs.{needs}
-use Rattle.writer.proofs.put_file.Statement.{statement}
-use Rattle.writer.proofs.put_file.Tie as tie
+use Rattle.encoder.proofs.put_file.Statement.{statement}
+use Rattle.encoder.proofs.put_file.Tie as tie
 
 kinds-at-requires : tie.Need-kinds-at-requires
 kinds-at-requires c κs = search needs

@@ -11,20 +11,18 @@ use Rattle.answers.specs.Answer.{Answer}
 use Rattle.answers.specs.Check.{unless}
 use Rattle.answers.proofs.Checks.{passes-both, passes-none, none-first}
 use Rattle.system.specs.System.{System, systemOf}
 use Rattle.model.specs.File.{fileLength, linesIn, levelsIn, decode, encode}
-use Rattle.model.specs.Checks.{fileChecks, fileNumber, roomChecks, readNumber, writeNumber}
-use Rattle.model.specs.Says.{sized, made, readingAnswer, writtenAnswer, filled, ReadSays, WriteSays}
+use Rattle.checker.specs.Checks.{fileChecks, fileNumber}
+use Rattle.reader.specs.Says.{roomChecks, readNumber, ReadSays}
+use Rattle.writer.specs.Says.{writeNumber, writtenAnswer, WriteSays}
+use Rattle.model.specs.Says.{sized, made, readingAnswer, filled}
 use Rattle.model.specs.declared.layout.Reading.{Reading}
-use Rattle.model.specs.declared.layout.Written.{Written}
+use Rattle.writer.specs.declared.Written.{Written}
 use Rattle.numbers.proofs.Below.{AllBelow}
-use Rattle.model.proofs.Refusals.{unless-number}
+use Rattle.model.proofs.Refusals.{none-of}
 use Rattle.model.proofs.RoundTrip.{encode-length, encode-lines, encode-levels}
-use Rattle.model.proofs.Accepted.{after-file}
-use Rattle.model.proofs.Passed.{written-fits, written-decodes, written-right, read-encodes, read-length, read-sliced, read-writable}
-
--- the number of an operation that accepts
-pub none-of : (e : ℕ) (a b : Answer) → a ≡ unless e b → b .number ≡ 0 → a .number ≡ 0 → e ≡ 0
-none-of e a b says clear ok = sym (unless-number e b clear) ∙ ap (λ (x : Answer). x .number) (sym says) ∙ ok
+use Rattle.checker.proofs.Accepted.{after-file}
+use Rattle.round_trip.proofs.RightFiles.{written-fits, written-decodes, written-right, read-encodes, read-length, read-sliced, read-writable}
 
 -- reading a right file into slices that are long enough
 room-enough : (file : List ℕ) (s k w : ℕ) → fileNumber file ≡ 0 → levelsIn file ≤ s → linesIn file ≤ k → linesIn file * levelsIn file ≤ w → readNumber file s k w ≡ 0

@@ -1,0 +1,2 @@
+pub mod RightFiles
+pub mod ReadBack

@@ -1,0 +1,1 @@
+// Theorems alone: reading what was written gives that model, and writing what was read gives that file (proofs/).
