@@ -2,6 +2,7 @@
 -- Assumes nothing.
 use mathlib.Core.Bool.{not}
 use mathlib.Core.List.{List, [], _∷_, _++_}
+use mathlib.Core.Path.{_≡_}
 use Prim.Native.Nat.{ℕ}
 use lib.Dec.{eqb, ltb}
 use lib.ListN.{length}
@@ -36,3 +37,7 @@ fileNumber file = firstOf (fileChecks file)
 -- the answer of checking
 abbrev pub checkAnswer : List ℕ → Answer
 checkAnswer file = unless (fileNumber file) (sized (linesIn file) (levelsIn file))
+
+-- a model in use (document 01): checking accepts the file, with these two counts
+abbrev pub InUse : List ℕ → ℕ → ℕ → Type 0
+InUse file n d = checkAnswer file ≡ sized n d

@@ -17,7 +17,8 @@ use Rattle.checker.specs.Checks.{fileNumber}
 use Rattle.model.specs.declared.layout.Model.{Model}
 use Rattle.model.proofs.Refusals.{RefusedAs}
 use Rattle.checker.proofs.Accepted.{Checked, after-file}
-use Rattle.solver.specs.Checks.{misplaced, builtNumber}
+use Rattle.admission.specs.Checks.{misplaced, boundNumber}
+use Rattle.solver.specs.Checks.{builtNumber}
 use Rattle.solver.specs.Says.{judgedAnswer, PlainSays, BuiltSays}
 use Rattle.solver.specs.declared.Judged.{Judged}
 use Rattle.report.specs.Report.{plainWord, treeWord, refusedLine, answerLine, shareLine, linesOrRefused, reportText}
@@ -38,7 +39,7 @@ module _ (file : List ℕ) where
 
   -- between no line and all lines an accepted file is judged over the built-in trees
   pub never-misplaced : fileNumber file ≡ 0 → builtNumber file 0 (full (decode file .lines)) ≡ 0
-  unfolding builtNumber decode
+  unfolding boundNumber decode
   never-misplaced h = after-file file (9 if misplaced (linesIn file) 0 (full (linesIn file)) ∷ []) h ∙ ap (λ (t : Bool). cond t 9 0) (well-placed (linesIn file))
 
   -- the three lines, from what the file's check, its mask of all lines and both judgings say

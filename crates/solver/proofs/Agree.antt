@@ -13,7 +13,7 @@ use Rattle.routes.specs.Routes.{plainRun}
 use Rattle.solver.specs.Checks.{builtNumber, plainNumber}
 use Rattle.solver.specs.Says.{judgedAnswer, PlainSays, BuiltSays}
 use Rattle.solver.specs.declared.Judged.{Judged}
-use Rattle.solver.proofs.Admitted.{after-bounds}
+use Rattle.admission.proofs.Admitted.{after-bounds}
 use Rattle.solver.proofs.Answers.{ceilingChecks}
 
 pub operations-agree :

@@ -6,45 +6,28 @@ use mathlib.Core.List.{List, [], _∷_}
 use mathlib.Core.Path.{_≡_, refl, sym, _∙_, ap₂}
 use Prim.Native.Nat.{ℕ, _-_, _≤_}
 use native.Mathlib.Omega.{arith}
-use mathlib.Mathlib.Data.Bool.Basic.{or-eq-false-eq-eq-false-and-eq-false as neither}
-use borrow.Author.Tests.{le-ltb, lt-ltb, ltb-false}
+use borrow.Author.Tests.{le-ltb, lt-ltb}
 use lib.Dec.{ltb}
-use lib.ListN.{length}
-use Rattle.answers.specs.Check.{Check, _if_, outside}
+use Rattle.answers.specs.Check.{Check, _if_}
 use Rattle.answers.specs.declared.Refusal.{Refusal}
 use Rattle.answers.specs.declared.Refusal.the-variants.{Ceiling, Tree}
-use Rattle.answers.proofs.Checks.{inside}
 use Rattle.fixpoint.specs.Plain.{Run}
-use Rattle.trees.specs.Tree.{IsTree, leaf, gap}
 use Rattle.model.specs.File.{decode}
-use Rattle.model.specs.Checks.{some}
 use Rattle.model.specs.declared.layout.Model.{Model}
 use Rattle.model.proofs.Refusals.{RefusedAs, refused-before, refused-answer}
 use Rattle.plain_route.specs.Under.{under}
-use Rattle.routes.specs.Parts.{Lent}
 use Rattle.routes.specs.Routes.{leastLevels, greatestLevels, plainRun}
 use Rattle.routes.specs.declared.step.Found.{Found}
 use Rattle.plain_route.specs.declared.Outcome.the-variants as outcome
 use Rattle.routes.proofs.Promises.{plain-is-nested, built-product, built-nested, lent-product, lent-nested}
 use Rattle.plain_route.proofs.Rounds.{Fits, settled-fits, spent-exceeds}
 use Rattle.view.specs.View.{BuiltIs, LentIs}
-use Rattle.solver.specs.Checks.{badTree, boundChecks, builtNumber, plainNumber, treeChecks, lentNumber}
+use Rattle.admission.specs.Checks.{badTree, boundChecks, boundNumber}
+use Rattle.solver.specs.Checks.{builtNumber, plainNumber, treeChecks, lentNumber}
 use Rattle.solver.specs.Says.{judged, PlainSays, BuiltSays, LentSays}
 use Rattle.solver.specs.declared.Judged.the-variants as judgement
-use Rattle.solver.proofs.Admitted.{Admitted, after-bounds}
-
--- a tree that is not bad is one of its height, as short as may be lent
-pub good-tree : (h : ℕ) (gaps : List ℕ) → badTree h gaps ≡ false → Lent h gaps
-good-tree h gaps e =
-    let both = neither (ltb 1023 (length gaps)) (some (outside h) gaps) .0 e in
-    record { tree = within gaps (both .1); few = ltb-false 1023 (length gaps) (both .0) }
-  where
-    within : (gs : List ℕ) → some (outside h) gs ≡ false → IsTree h gs
-    within [] e = leaf
-    within (g ∷ gs) e =
-        let both = neither (outside h g) (some (outside h) gs) .0 e in
-        let bounds = inside h g (both .0) in
-        gap (bounds .0) (bounds .1) (within gs (both .1))
+use Rattle.admission.proofs.Admitted.{Admitted, after-bounds}
+use Rattle.admission.proofs.LentTrees.{good-tree}
 
 -- a number that refuses is not 0
 never : {n : ℕ} {e : Refusal} → RefusedAs n e → n ≡ 0 → ⊥
@@ -57,7 +40,7 @@ module _ (file : List ℕ) (a b : ℕ) where
     ceilingChecks = 10 if ltb ceiling (plainRun (decode file) a b .queries) ∷ []
 
     pub plain-refused : {e : Refusal} → RefusedAs (builtNumber file a b) e → PlainSays file a b ceiling (judgement.Refused e)
-    unfolding builtNumber plainNumber
+    unfolding boundNumber plainNumber
     plain-refused h =
         let still = refused-before (boundChecks file a b) ceilingChecks h in
         record { answer = refused-answer still _; nested = λ z. absurd (never still z) }
@@ -97,7 +80,7 @@ module _ (file : List ℕ) (a b : ℕ) where
   -- judging by lent trees
   module _ (u v : List ℕ) where
     pub lent-refused : {e : Refusal} → RefusedAs (builtNumber file a b) e → LentSays file a b u v (judgement.Refused e)
-    unfolding builtNumber lentNumber
+    unfolding boundNumber lentNumber
     lent-refused h =
         let still = refused-before (boundChecks file a b) (treeChecks file u v) h in
         record { answer = refused-answer still _; product = λ z. absurd (never still z); nested = λ z. absurd (never still z) }

@@ -1,3 +1,2 @@
-pub mod Admitted
 pub mod Answers
 pub mod Agree

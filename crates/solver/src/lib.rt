@@ -1,16 +1,10 @@
 // The public operations on a model in use: one query, and each of the three judgings. Each takes all inputs, ends, and answers a set,
 // judging with a count, or one refusal by document 01's order. Definitions: specs/.
 ghost use mathlib.Core.Path.{_≡_};
-ghost use Prim.Native.Nat.{_≤_};
-ghost use Rattle.answers.specs.Check.{unless};
-ghost use Rattle.model.specs.File.{linesIn, levelsIn};
-ghost use Rattle.model.specs.Says.{readingAnswer, sized};
-ghost use Rattle.model.specs.Held.{Held, systemIn};
-ghost use Rattle.routes.specs.Routes.{leastLevels};
-ghost use Rattle.solver.specs.Checks.{misplaced, badTree, builtNumber};
 ghost use Rattle.solver.specs.Says.{queriedAnswer, queryAnswer, handedOn, PlainSays, BuiltSays, LentSays};
+use admission::admit;
+use admission::tree_is_bad;
 use answers::Refusal;
-use model::Model;
 use model::Reading;
 use plain_route::Outcome;
 
@@ -42,35 +36,6 @@ pub fn query(file: &[u8], xs: &[u64]) -> Queried
 pub enum Judged {
     Found { set: u64, count: u64 },
     Refused(Refusal),
-}
-
-// Whether a bound has a line of n or more, or the lower is not within the upper.
-fn bounds_misplaced(n: usize, a: u64, b: u64) -> bool
-    requires { ⌜ n ≤ 64 ⌝ }
-    ensures { λ r. ⌜ r ≡ misplaced n a b ⌝ }
-{
-    let all = sets::full_set(n);
-    if !sets::within(a, all) {
-        return true;
-    }
-    if !sets::within(b, all) {
-        return true;
-    }
-    !sets::within(a, b)
-}
-
-// Refusals 1 to 9, which all judging makes, or the counts of the file.
-fn admit(file: &[u8], a: u64, b: u64) -> Reading
-    ensures { λ r. ⌜ readingAnswer r ≡ unless (builtNumber (now (file .entry)) a b) (sized (linesIn (now (file .entry))) (levelsIn (now (file .entry)))) ⌝ }
-{
-    let counts = checker::check(file);
-    let Reading::Accepted(m) = counts else {
-        return counts;
-    };
-    if bounds_misplaced(m.lines, a, b) {
-        return Reading::Refused(Refusal::Bounds);
-    }
-    counts
 }
 
 // A reading's refusal as a judgement's. Of an accepted reading nothing is judged yet.
@@ -116,44 +81,6 @@ pub fn solve_built(file: &[u8], a: u64, b: u64) -> Judged
     }
 }
 
-// The number of least levels.
-fn count_least(file: &[u8], m: Model) -> usize
-    requires { ⌜ Held (now file) m ⌝ }
-    ensures { λ r. ⌜ r ≡ leastLevels (systemIn (now (file .entry)) m) ⌝ }
-{
-    let d = m.levels;
-    let mut least = 0;
-    let mut k = 0;
-    while k < d {
-        if !routes::is_greatest(file, m, k) {
-            least += 1;
-        }
-        k += 1;
-    }
-    least
-}
-
-// Whether a lent tree has too many gaps, or one that is 0 or above its height.
-fn tree_is_bad(gaps: &[u8], h: usize) -> bool
-    ensures { λ r. ⌜ r ≡ badTree h (now (gaps .entry)) ⌝ }
-{
-    if Model::MAX_GAPS < gaps.len() {
-        return true;
-    }
-    let mut i = 0;
-    while i < gaps.len() {
-        let gap = gaps[i] as usize;
-        if gap == 0 {
-            return true;
-        }
-        if h < gap {
-            return true;
-        }
-        i += 1;
-    }
-    false
-}
-
 // Judges by two lent trees, given by their gaps: u for the least levels and v for the greatest.
 pub fn solve_lent(file: &[u8], a: u64, b: u64, u: &[u8], v: &[u8]) -> Judged
     ensures { λ r. ⌜ LentSays (now (file .entry)) a b (now (u .entry)) (now (v .entry)) r ⌝ }
@@ -162,7 +89,7 @@ pub fn solve_lent(file: &[u8], a: u64, b: u64, u: &[u8], v: &[u8]) -> Judged
     let Reading::Accepted(m) = counts else {
         return hand_on(counts);
     };
-    let least = count_least(file, m);
+    let least = routes::count_least(file, m);
     let greatest = m.levels - least;
     if tree_is_bad(u, least) {
         return Judged::Refused(Refusal::Tree);

@@ -11,7 +11,7 @@ use Rattle.model.specs.declared.layout.Reading.the-variants as reading
 use Rattle.checker.proofs.Accepted.{checked}
 use Rattle.model.specs.Held.{Held, systemIn}
 use Rattle.routes.specs.Parts.{LineCount}
-use Rattle.view.specs.View.{InUse}
+use Rattle.checker.specs.Checks.{InUse}
 use Rattle.view.specs.declared.View.{View}
 
 -- the two counts as a value of the model's type

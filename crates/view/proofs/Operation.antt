@@ -31,7 +31,7 @@ use denote.Struct.Rest.{all-own, own-open}
 use denote.Struct.Values.{Values}
 use denote.Triple.Spec.{Meets}
 use denote.Triple.Clauses.{closing, Clauses}
-use Rattle.view.specs.View.{InUse}
+use Rattle.checker.specs.Checks.{InUse}
 use Rattle.view.specs.declared.View.{View}
 use Rattle.view.proofs.InUse.{same-view}
 use Rattle.view.proofs.Passed.{Passeds, keeping, factual, values, States, called, met-by, Entry, Has}

@@ -18,7 +18,8 @@ use Rattle.routes.proofs.step.Found as Found
 use Rattle.routes.proofs.step.Found.Laws as Found′
 use Rattle.plain_route.proofs.Outcome as Outcome
 use Rattle.plain_route.proofs.Outcome.Laws as Outcome′
-use Rattle.view.specs.View.{InUse, Fitting, PlainIs, BuiltIs, LentIs}
+use Rattle.checker.specs.Checks.{InUse}
+use Rattle.view.specs.View.{Fitting, PlainIs, BuiltIs, LentIs}
 use Rattle.view.specs.declared.View.{View}
 use Rattle.view.proofs.Operation.{Operation}
 use Rattle.view.proofs.Viewed.{number, slice, count}

@@ -31,7 +31,7 @@ use denote.Steps.{owned}
 use denote.Struct.Laws as LL
 use denote.Triple.Spec.{Meets}
 use denote.Triple.Clauses.{closing, Clauses}
-use Rattle.view.specs.View.{InUse}
+use Rattle.checker.specs.Checks.{InUse}
 use Rattle.view.specs.declared.View.{View}
 use Rattle.view.proofs.InUse.{Made}
 use Rattle.view.proofs.Passed.{Passed, Passeds, keeping, factual, values, States, met-by, Has}

@@ -20,7 +20,8 @@ use Rattle.routes.specs.Routes.{builtLeast, builtGreatest}
 use Rattle.routes.specs.declared.step.Found.{Found}
 use Rattle.plain_route.specs.declared.Outcome.{Outcome}
 use Rattle.routes.proofs.Promises.{plain-rounds}
-use Rattle.view.specs.View.{InUse, PlainIs, BuiltIs, LentIs}
+use Rattle.checker.specs.Checks.{InUse}
+use Rattle.view.specs.View.{PlainIs, BuiltIs, LentIs}
 use Rattle.view.proofs.InUse.{countsOf, used}
 
 module _ (file : List ℕ) (n d : ℕ) (h : InUse file n d) where

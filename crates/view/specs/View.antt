@@ -4,17 +4,11 @@ use mathlib.Core.List.{List}
 use mathlib.Core.Path.{_≡_}
 use Prim.Native.Nat.{ℕ}
 use Rattle.system.specs.System.{System}
-use Rattle.checker.specs.Checks.{checkAnswer}
-use Rattle.model.specs.Says.{sized}
 use Rattle.routes.specs.Parts.{Lent, Gives}
 use Rattle.plain_route.specs.Under.{under}
 use Rattle.routes.specs.Routes.{leastLevels, greatestLevels, builtLeast, builtGreatest, plainRun, restrictedSet, restrictedCount}
 use Rattle.routes.specs.declared.step.Found.{Found}
 use Rattle.plain_route.specs.declared.Outcome.{Outcome}
-
--- a model in use (document 01): checking accepts the file, with these two counts
-abbrev pub InUse : List ℕ → ℕ → ℕ → Type 0
-InUse file n d = checkAnswer file ≡ sized n d
 
 -- the outcome of the plain route under a ceiling
 abbrev pub PlainIs : System → ℕ → ℕ → ℕ → Outcome → Type 0

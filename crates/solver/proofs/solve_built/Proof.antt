@@ -4,7 +4,7 @@ use mathlib.Core.Path.{sym, _∙_, ap, subst}
 use denote.Ref.{now}
 use Rattle.solver.specs.Says.{handedOn, BuiltSays}
 use Rattle.solver.specs.declared.Judged.{Judged}
-use Rattle.solver.proofs.Admitted.{Admitted, admitted, turned-down}
+use Rattle.admission.proofs.Admitted.{Admitted, admitted, turned-down}
 use Rattle.solver.proofs.Answers.{built-refused, built-found}
 use borrow.Author.Needs.{needs}
 use Rattle.solver.proofs.solve_built.Statement.{statement}

@@ -11,11 +11,12 @@ use Rattle.system.specs.System.{sign}
 use Rattle.model.specs.File.{decode}
 use Rattle.model.specs.Held.{systemIn}
 use Rattle.routes.specs.Routes.{leastLevels, greatestLevels}
-use Rattle.solver.specs.Checks.{badTree}
+use Rattle.admission.specs.Checks.{badTree}
 use Rattle.solver.specs.Says.{handedOn, LentSays}
 use Rattle.solver.specs.declared.Judged.{Judged}
-use Rattle.solver.proofs.Admitted.{Admitted, admitted, turned-down}
-use Rattle.solver.proofs.Answers.{lent-refused, lent-bad, lent-found, good-tree}
+use Rattle.admission.proofs.Admitted.{Admitted, admitted, turned-down}
+use Rattle.solver.proofs.Answers.{lent-refused, lent-bad, lent-found}
+use Rattle.admission.proofs.LentTrees.{good-tree}
 use borrow.Author.Needs.{needs}
 use Rattle.solver.proofs.solve_lent.Statement.{statement}
 use Rattle.solver.proofs.solve_lent.Tie as tie

@@ -10,7 +10,7 @@ use Rattle.plain_route.specs.declared.Outcome.the-variants.{Settled}
 use Rattle.plain_route.proofs.Rounds.{settled-fits}
 use Rattle.solver.specs.Says.{handedOn, PlainSays}
 use Rattle.solver.specs.declared.Judged.{Judged}
-use Rattle.solver.proofs.Admitted.{Admitted, admitted, counted-range, turned-down}
+use Rattle.admission.proofs.Admitted.{Admitted, admitted, counted-range, turned-down}
 use Rattle.solver.proofs.Answers.{plain-refused, plain-spent, plain-found}
 use borrow.Author.Needs.{needs}
 use Rattle.solver.proofs.solve_plain.Statement.{statement}

@@ -1,4 +1,4 @@
--- `solver::admit` meets its contract: checking's refusal is handed on, then the bounds are checked.
+-- `admission::admit` meets its contract: checking's refusal is handed on, then the bounds are checked.
 -- Assumes nothing.
 use mathlib.Core.Bool.{Bool, cond}
 use mathlib.Core.List.{[], _∷_}
@@ -11,10 +11,10 @@ use Rattle.checker.specs.Checks.{fileChecks, fileNumber}
 use Rattle.model.specs.Says.{readingAnswer, sized}
 use Rattle.model.proofs.Refusals.{refused-before, refused-answer}
 use Rattle.checker.proofs.Accepted.{Checked, checked, refused, after-file}
-use Rattle.solver.specs.Checks.{misplaced, builtNumber}
+use Rattle.admission.specs.Checks.{misplaced, boundNumber}
 use borrow.Author.Needs.{needs}
-use Rattle.solver.proofs.admit.Statement.{statement}
-use Rattle.solver.proofs.admit.Tie as tie
+use Rattle.admission.proofs.admit.Statement.{statement}
+use Rattle.admission.proofs.admit.Tie as tie
 
 known : (c : tie.After-known-told) → Checked (now (c .before .before .before .before .before .args .file)) (c .before .counts .given .0 .0)
 known c = checked _ (c .before .before .before .check .ensures) (c .before .counts .given .1)
@@ -22,8 +22,8 @@ known c = checked _ (c .before .before .before .check .ensures) (c .before .coun
 -- only the bounds are left to check
 counted : (c : tie.After-bounds-misplaced) →
     let start = c .before .before .before .before .before .before in
-    builtNumber (now (start .args .file)) (start .args .a) (start .args .b) ≡ cond (c .bounds-misplaced .result) 9 0
-unfolding builtNumber
+    boundNumber (now (start .args .file)) (start .args .a) (start .args .b) ≡ cond (c .bounds-misplaced .result) 9 0
+unfolding boundNumber
 counted c =
     let start = c .before .before .before .before .before .before in
     let counts = known (c .before) .counts in
@@ -41,7 +41,7 @@ enum-told : tie.Need-enum-told
 enum-told c = search needs
 
 returns : tie.Need-returns
-unfolding builtNumber fileNumber
+unfolding boundNumber fileNumber
 returns c =
     let start = c .before .before .before .before in
     let file = now (start .args .file) in

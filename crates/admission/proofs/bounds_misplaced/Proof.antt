@@ -1,4 +1,4 @@
--- `solver::bounds_misplaced` meets its contract: each test against the mask of all lines, then the one against the other bound.
+-- `admission::bounds_misplaced` meets its contract: each test against the mask of all lines, then the one against the other bound.
 -- Assumes nothing.
 use mathlib.Core.Bool.{Bool, not}
 use mathlib.Core.Path.{_≡_, sym, _∙_, ap}
@@ -7,8 +7,8 @@ use Rattle.sets.specs.Set.{full, isWithin}
 use Rattle.model.specs.Checks.{strays}
 use Rattle.model.proofs.Sizes.{strays-mask}
 use borrow.Author.Needs.{needs}
-use Rattle.solver.proofs.bounds_misplaced.Statement.{statement}
-use Rattle.solver.proofs.bounds_misplaced.Tie as tie
+use Rattle.admission.proofs.bounds_misplaced.Statement.{statement}
+use Rattle.admission.proofs.bounds_misplaced.Tie as tie
 
 -- what a test against the mask of all lines says of a bound
 strayed : {n all : ℕ} (x : ℕ) {w t : Bool} → n ≤ 64 → all ≡ full (min n 64) → w ≡ isWithin x all → not w ≡ t → strays n x ≡ t

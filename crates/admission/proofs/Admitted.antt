@@ -17,7 +17,7 @@ use Rattle.fixpoint.specs.Sets.{sets}
 use Rattle.fixpoint.proofs.Sets.{sets-range}
 use Rattle.system.specs.System.{System}
 use Rattle.model.specs.File.{linesIn, levelsIn, decode}
-use Rattle.checker.specs.Checks.{fileChecks, fileNumber}
+use Rattle.checker.specs.Checks.{fileChecks, fileNumber, InUse}
 use Rattle.model.specs.Says.{readingAnswer, sized}
 use Rattle.model.specs.declared.layout.Model.{Model}
 use Rattle.model.specs.declared.layout.Reading.{Reading}
@@ -25,12 +25,11 @@ use Rattle.model.specs.declared.layout.Reading.the-variants as reading
 use Rattle.model.proofs.Refusals.{AcceptedAs, RefusedAs, accepted-as, refused-as}
 use Rattle.checker.proofs.Accepted.{accepted, decoded, limits, room}
 use Rattle.model.specs.Held.{Held, systemIn}
-use Rattle.view.specs.View.{InUse}
-use Rattle.solver.specs.Checks.{misplaced, boundChecks, builtNumber}
+use Rattle.admission.specs.Checks.{misplaced, boundChecks, boundNumber}
 
 pub record Admitted (file : List ℕ) (a b : ℕ) (m : Model) : Type 0 where
-  pub number : builtNumber file a b ≡ 0
-  pub counts : AcceptedAs (builtNumber file a b) (linesIn file) (levelsIn file) m
+  pub number : boundNumber file a b ≡ 0
+  pub counts : AcceptedAs (boundNumber file a b) (linesIn file) (levelsIn file) m
   pub in-use : InUse file (m .lines) (m .levels)
   pub held : Held file m
   pub system : systemIn file m ≡ decode file
@@ -50,15 +49,15 @@ counted-range {file} {a} {b} {m} ad = subst (λ (s : System). Range (sets (s .li
 
 module _ (file : List ℕ) (a b : ℕ) where
   -- no check up to 9 applies
-  passes : builtNumber file a b ≡ 0 → Passes (boundChecks file a b)
-  unfolding builtNumber
+  passes : boundNumber file a b ≡ 0 → Passes (boundChecks file a b)
+  unfolding boundNumber
   passes h = none-first (boundChecks file a b) refl h
 
-  module _ {r : Reading} (says : readingAnswer r ≡ unless (builtNumber file a b) (sized (linesIn file) (levelsIn file))) where
+  module _ {r : Reading} (says : readingAnswer r ≡ unless (boundNumber file a b) (sized (linesIn file) (levelsIn file))) where
     pub admitted : {m : Model} → r ≡ reading.Accepted m → Admitted file a b m
     unfolding fileNumber decode
     admitted {m} e =
-        let counts = accepted-as (builtNumber file a b) (linesIn file) (levelsIn file) says e in
+        let counts = accepted-as (boundNumber file a b) (linesIn file) (levelsIn file) says e in
         let both = passes-both (fileChecks file) (9 if misplaced (linesIn file) a b ∷ []) (passes (counts .number)) in
         let none : fileNumber file ≡ 0 = passes-none (fileChecks file) (both .0) in
         let whole = accepted file none in
@@ -72,10 +71,10 @@ module _ (file : List ℕ) (a b : ℕ) where
           range = in-range (linesIn file) a b (both .1 .0);
         }
 
-    pub turned-down : {e : Refusal} → r ≡ reading.Refused e → RefusedAs (builtNumber file a b) e
-    turned-down = refused-as (builtNumber file a b) (linesIn file) (levelsIn file) says
+    pub turned-down : {e : Refusal} → r ≡ reading.Refused e → RefusedAs (boundNumber file a b) e
+    turned-down = refused-as (boundNumber file a b) (linesIn file) (levelsIn file) says
 
   -- the number of an operation that makes more checks behind these
-  pub after-bounds : (more : List Check) → builtNumber file a b ≡ 0 → firstOf (boundChecks file a b ++ more) ≡ firstOf more
-  unfolding builtNumber
+  pub after-bounds : (more : List Check) → boundNumber file a b ≡ 0 → firstOf (boundChecks file a b ++ more) ≡ firstOf more
+  unfolding boundNumber
   after-bounds more = after-none (boundChecks file a b) more refl

@@ -1,4 +1,4 @@
--- `solver::tree_is_bad` meets its contract. The loop's invariant: no gap passed is 0 or above the height. The measure is the gaps left.
+-- `admission::tree_is_bad` meets its contract. The loop's invariant: no gap passed is 0 or above the height. The measure is the gaps left.
 -- Assumes nothing.
 use mathlib.Core.Bool.{true, or-true}
 use mathlib.Core.List.{List}
@@ -11,11 +11,11 @@ use denote.Ref.{now}
 use lib.Dec.{ltb}
 use lib.ListN.{length, getD}
 use Rattle.answers.specs.Check.{outside}
-use Rattle.solver.specs.Checks.{badTree}
+use Rattle.admission.specs.Checks.{badTree}
 use Rattle.model.proofs.Searches.{NoneBelow, some-true, some-false}
 use borrow.Author.Needs.{needs}
-use Rattle.solver.proofs.tree_is_bad.Statement.{statement}
-use Rattle.solver.proofs.tree_is_bad.Tie as tie
+use Rattle.admission.proofs.tree_is_bad.Statement.{statement}
+use Rattle.admission.proofs.tree_is_bad.Tie as tie
 
 abbrev Inv-loop : tie.InvT-loop
 Inv-loop gaps h i₀ i = (i ≤ length gaps) × NoneBelow i (λ j. outside h (getD gaps j 0))

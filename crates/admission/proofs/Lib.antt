@@ -1,0 +1,2 @@
+pub mod Admitted
+pub mod LentTrees
