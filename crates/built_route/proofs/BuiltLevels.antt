@@ -14,7 +14,7 @@ use Rattle.trees.specs.Built.{built, builtChildren}
 use Rattle.trees.proofs.Built.{built-children-length, built-children-leaves, children-built, child-leaves}
 use Rattle.fixpoint.specs.Levels.{leastAmong, greatestAmong}
 use Rattle.system.specs.System.{System, sign}
-use Rattle.routes.specs.declared.step.Found.{Found}
+use Rattle.routes.specs.declared.shared.Found.{Found}
 use Rattle.routes.specs.Parts.{LineCount, leastOf, greatestOf, riseQueries, fallQueries}
 use Rattle.fixpoint.specs.Restricted.{sumOver}
 use Rattle.routes.proofs.ChildrenPassed.{passed-few}

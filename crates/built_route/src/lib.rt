@@ -13,10 +13,10 @@ ghost use Rattle.routes.specs.Parts.{LineCount, Gives, leastOf, greatestOf, res
 use evaluator::Pending;
 use evaluator::decide;
 use model::Model;
+use model::is_greatest;
 use routes::Found;
 use routes::innermost_greatest;
 use routes::innermost_least;
-use routes::is_greatest;
 
 // The lines that child i of S(n, h + 1) is for, whatever h: those of S(n/2, h + 1) come first, then S(n, h), then those of S((n - 1)/2, h + 1).
 fn child_lines(n: usize, i: usize) -> usize

@@ -14,7 +14,7 @@ use Rattle.trees.proofs.Children.{children-leaves}
 use Rattle.fixpoint.specs.Levels.{leastAmong, greatestAmong}
 use Rattle.fixpoint.specs.Restricted.{sumOver}
 use Rattle.system.specs.System.{System, sign}
-use Rattle.routes.specs.declared.step.Found.{Found}
+use Rattle.routes.specs.declared.shared.Found.{Found}
 use Rattle.routes.specs.Parts.{Lent, leastOf, greatestOf, riseQueries, fallQueries}
 use Rattle.routes.proofs.ChildrenPassed.{passed-few}
 use Rattle.routes.proofs.Levels.{LeastGives, GreatestGives, least-heights, greatest-heights, least-queries, greatest-queries}

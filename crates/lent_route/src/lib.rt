@@ -12,10 +12,10 @@ ghost use Rattle.routes.specs.Parts.{Lent, Gives, leastOf, greatestOf, restrict
 use evaluator::Pending;
 use evaluator::decide;
 use model::Model;
+use model::is_greatest;
 use routes::Found;
 use routes::innermost_greatest;
 use routes::innermost_least;
-use routes::is_greatest;
 
 // Where the first gap of h stands, or the length where there is none.
 fn first_gap(gaps: &[u8], h: usize) -> usize

@@ -12,7 +12,7 @@ use evaluator::Pending;
 use evaluator::decide;
 use evaluator::step_to;
 use model::Model;
-use routes::is_greatest;
+use model::is_greatest;
 
 // How a run under a ceiling ends.
 pub enum Outcome {

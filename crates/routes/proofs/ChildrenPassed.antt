@@ -7,7 +7,7 @@ use native.Mathlib.Omega.{arith}
 use Rattle.fixpoint.specs.Restricted.{sumOver}
 use Rattle.fixpoint.proofs.Restricted.{fall-is-rise}
 use Rattle.system.specs.System.{System}
-use Rattle.routes.specs.declared.step.Found.{Found}
+use Rattle.routes.specs.declared.shared.Found.{Found}
 use Rattle.routes.specs.Parts.{Gives, restrictedFrom, queriesFrom}
 use Rattle.routes.proofs.OverChildren.{then, rises-none, rises-child, sum-append}
 use Rattle.routes.proofs.Levels.{LeastGives, GreatestGives}

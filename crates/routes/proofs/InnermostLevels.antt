@@ -8,7 +8,7 @@ use Rattle.sets.specs.Set.{boundedStep}
 use Rattle.system.specs.System.{System}
 use Rattle.evaluator.specs.ByLevels.{Decided}
 use Rattle.evaluator.specs.declared.Pending.{Pending}
-use Rattle.routes.specs.declared.step.Found.{Found}
+use Rattle.routes.specs.declared.shared.Found.{Found}
 use Rattle.routes.proofs.Inside.{decided-low, decided-high}
 use Rattle.routes.proofs.ChildrenPassed.{least-child, greatest-child}
 use Rattle.routes.proofs.Levels.{LeastGives, GreatestGives, least-inside, greatest-inside, no-level}

@@ -14,7 +14,7 @@ use Rattle.system.specs.Query.{query}
 use Rattle.evaluator.specs.ByLevels.{Decided}
 use Rattle.evaluator.specs.declared.Pending.{Pending}
 use Rattle.evaluator.proofs.DecidedLines.{decided-all}
-use Rattle.routes.specs.declared.step.Found.{Found}
+use Rattle.routes.specs.declared.shared.Found.{Found}
 use Rattle.routes.specs.Parts.{Gives, leastOf, greatestOf, restrictedFrom, queriesFrom, riseFrom, riseQueries, fallFrom, fallQueries}
 use Rattle.routes.proofs.Inside.{Inside, restricted-inside, rise-inside, fall-inside}
 

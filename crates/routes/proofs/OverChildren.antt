@@ -6,7 +6,7 @@ use mathlib.Core.Path.{_≡_, refl, sym, _∙_, ap}
 use Prim.Native.Nat.{ℕ, _+_}
 use native.Mathlib.Omega.{arith}
 use Rattle.fixpoint.specs.Restricted.{rise, sumOver}
-use Rattle.routes.specs.declared.step.Found.{Found}
+use Rattle.routes.specs.declared.shared.Found.{Found}
 use Rattle.routes.specs.Parts.{Gives}
 
 rise-append : {C : Type 0} (p : C → C → C → List ℕ → List ℕ → C) (b : C) (v : List ℕ) (a : C) (us ws : List (List ℕ)) → rise p b v a (us ++ ws) ≡ rise p b v (rise p b v a us) ws

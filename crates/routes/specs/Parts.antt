@@ -12,7 +12,7 @@ use Rattle.fixpoint.specs.Levels.{leastAmong, greatestAmong}
 use Rattle.fixpoint.specs.Restricted.{restricted, restrictedQueries, rise, fall, sumOver}
 use Rattle.fixpoint.specs.Plain.{Run, plain}
 use Rattle.fixpoint.specs.Sets.{sets}
-use Rattle.routes.specs.declared.step.Found.{Found}
+use Rattle.routes.specs.declared.shared.Found.{Found}
 
 -- the numbers of least and of greatest levels among the first k
 abbrev pub leastOf : System → ℕ → ℕ

@@ -5,7 +5,7 @@ ghost use lib.ListN.{replicate};
 ghost use Rattle.model.specs.Held.{Held, systemIn};
 ghost use Rattle.evaluator.specs.ByLevels.{Decided};
 ghost use Rattle.routes.specs.Parts.{Gives, riseFrom, riseQueries, fallFrom, fallQueries};
-use super::step::Found;
+use super::shared::Found;
 use evaluator::Pending;
 use evaluator::decide;
 use evaluator::step_to;

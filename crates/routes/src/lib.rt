@@ -1,9 +1,8 @@
-// What the routes share: the levels' signs, and the innermost level of both tree routes. Definitions, of every route: specs/.
+// What the routes share, and the innermost level of both tree routes. Definitions, of every route: specs/.
 mod innermost;
-mod step;
+mod shared;
 
 pub use innermost::innermost_greatest;
 pub use innermost::innermost_least;
-pub use step::Found;
-pub use step::count_least;
-pub use step::is_greatest;
+pub use shared::Found;
+pub use shared::count_least;

@@ -17,7 +17,7 @@ use Rattle.model.specs.declared.layout.Model.{Model}
 use Rattle.model.proofs.Refusals.{RefusedAs, refused-before, refused-answer}
 use Rattle.plain_route.specs.Under.{under}
 use Rattle.routes.specs.Routes.{leastLevels, greatestLevels, plainRun}
-use Rattle.routes.specs.declared.step.Found.{Found}
+use Rattle.routes.specs.declared.shared.Found.{Found}
 use Rattle.plain_route.specs.declared.Outcome.the-variants as outcome
 use Rattle.routes.proofs.Promises.{plain-is-nested, built-product, built-nested, lent-product, lent-nested}
 use Rattle.plain_route.proofs.Rounds.{Fits, settled-fits, spent-exceeds}

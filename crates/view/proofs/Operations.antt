@@ -14,8 +14,8 @@ use Rattle.fixpoint.specs.Lawful.{Range}
 use Rattle.fixpoint.specs.Sets.{sets}
 use Rattle.model.specs.File.{decode}
 use Rattle.system.specs.Query.{query as querySet}
-use Rattle.routes.proofs.step.Found as Found
-use Rattle.routes.proofs.step.Found.Laws as Found′
+use Rattle.routes.proofs.shared.Found as Found
+use Rattle.routes.proofs.shared.Found.Laws as Found′
 use Rattle.plain_route.proofs.Outcome as Outcome
 use Rattle.plain_route.proofs.Outcome.Laws as Outcome′
 use Rattle.checker.specs.Checks.{InUse}

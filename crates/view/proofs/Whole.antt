@@ -17,7 +17,7 @@ use Rattle.model.specs.Held.{systemIn}
 use Rattle.routes.specs.Parts.{plainFrom, restrictedFrom, queriesFrom, Gives}
 use Rattle.plain_route.specs.Under.{under}
 use Rattle.routes.specs.Routes.{builtLeast, builtGreatest}
-use Rattle.routes.specs.declared.step.Found.{Found}
+use Rattle.routes.specs.declared.shared.Found.{Found}
 use Rattle.plain_route.specs.declared.Outcome.{Outcome}
 use Rattle.routes.proofs.Promises.{plain-rounds}
 use Rattle.checker.specs.Checks.{InUse}

@@ -7,7 +7,7 @@ use Rattle.system.specs.System.{System}
 use Rattle.routes.specs.Parts.{Lent, Gives}
 use Rattle.plain_route.specs.Under.{under}
 use Rattle.routes.specs.Routes.{leastLevels, greatestLevels, builtLeast, builtGreatest, plainRun, restrictedSet, restrictedCount}
-use Rattle.routes.specs.declared.step.Found.{Found}
+use Rattle.routes.specs.declared.shared.Found.{Found}
 use Rattle.plain_route.specs.declared.Outcome.{Outcome}
 
 -- the outcome of the plain route under a ceiling

@@ -35,7 +35,7 @@ use Rattle.built_route.proofs.+built_greatest+built_least+built_level.L
 use Rattle.built_route.proofs.child_lines.Reads as child-lines
 use Rattle.routes.proofs.innermost_greatest.Reads as innermost-greatest
 use Rattle.routes.proofs.innermost_least.Reads as innermost-least
-use Rattle.routes.proofs.is_greatest.Reads as is-greatest
+use Rattle.model.proofs.is_greatest.Reads as is-greatest
 use Rattle.built_route.proofs.+built_greatest+built_least+built_level.{statement}
 use Rattle.built_route.proofs.+built_greatest+built_least+built_level.Tie.{close}
 

@@ -36,7 +36,7 @@ use Rattle.lent_route.proofs.+lent_greatest+lent_least+lent_level.Lts-l
 use Rattle.routes.proofs.innermost_greatest.Reads as innermost-greatest
 use Rattle.routes.proofs.innermost_least.Reads as innermost-least
 use Rattle.lent_route.proofs.first_gap.Reads as first-gap
-use Rattle.routes.proofs.is_greatest.Reads as is-greatest
+use Rattle.model.proofs.is_greatest.Reads as is-greatest
 use Rattle.lent_route.proofs.+lent_greatest+lent_least+lent_level.{statement}
 use Rattle.lent_route.proofs.+lent_greatest+lent_least+lent_level.Tie.{close}
 

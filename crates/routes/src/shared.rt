@@ -1,24 +1,14 @@
-// What the routes share: a set with its queries, a level's sign, and how many levels are least.
+// What the routes share: a set with its queries, and how many levels are least.
 ghost use mathlib.Core.Path.{_≡_};
-ghost use Prim.Native.Nat.{_<_};
-ghost use Rattle.system.specs.System.{sign};
 ghost use Rattle.model.specs.Held.{Held, systemIn};
 ghost use Rattle.routes.specs.Routes.{leastLevels};
 use model::Model;
+use model::is_greatest;
 
 // A set, and the queries made on the way to it.
 pub struct Found {
     pub set: u64,
     pub count: u64,
-}
-
-// Whether level k + 1 is greatest.
-pub fn is_greatest(file: &[u8], m: Model, k: usize) -> bool
-    requires { ⌜ Held (now file) m ⌝ }
-    requires { ⌜ k < m .levels ⌝ }
-    ensures { λ r. ⌜ r ≡ sign (systemIn (now (file .entry)) m) k ⌝ }
-{
-    file[Model::SIGNS_AT + k] == 1
 }
 
 // The number of least levels.

@@ -1,4 +1,5 @@
-//! The example in C: compiled against the static library and run, what it prints is what stands beside it; and the manual shows both as they are.
+//! What the manual shows: the example in C, compiled against the static library and run, prints what stands beside it, and the manual has both
+//! as they are; its rows of model P's bytes are the sample model.
 
 use std::fs;
 use std::process::Command;
@@ -33,4 +34,18 @@ fn the_manual_shows_the_example_as_it_is() {
     let manual = text("docs/MANUAL.md");
     assert!(manual.contains(&format!("```c\n{}```\n", text("examples/judge_p.c"))));
     assert!(manual.contains(&format!("```\n{}```\n", text("examples/judge_p.stdout"))));
+}
+
+#[test]
+fn the_manual_shows_the_bytes_of_model_p() {
+    let manual = text("docs/MANUAL.md");
+    let rows = manual.split("here they are in hexadecimal").nth(1).and_then(|rest| rest.split("## Trees").next());
+    let mut bytes = Vec::new();
+    for row in rows.expect("the rows are there").lines().filter(|row| row.starts_with("    ")) {
+        let mut words = row.split_whitespace();
+        assert_eq!(words.next().and_then(|place| place.parse().ok()), Some(bytes.len()), "{row}");
+        let is_byte = |word: &&str| word.len() == 2 && word.bytes().all(|c| c.is_ascii_hexdigit());
+        bytes.extend(words.take_while(is_byte).map(|word| u8::from_str_radix(word, 16).expect("it is hexadecimal")));
+    }
+    assert_eq!(bytes, fs::read(root("models/p.model")).expect("it is there"));
 }

@@ -1,4 +1,4 @@
--- `routes::step::is_greatest` meets its contract: the signs begin at 16.
+-- `model::sign::is_greatest` meets its contract: the signs begin at 16.
 -- Assumes nothing.
 use mathlib.Core.List.{List}
 use mathlib.Core.Path.{_≡_, sym, _∙_, ap}
@@ -9,10 +9,10 @@ use lib.Seq.{getD-take, getD-drop}
 use denote.Ref.{now}
 use borrow.Author.Needs.{needs}
 use Rattle.system.specs.System.{sign}
 use Rattle.model.specs.Held.{systemIn}
 use Rattle.model.specs.declared.layout.Model.{Model}
-use Rattle.routes.proofs.step.is_greatest.Statement.{statement}
-use Rattle.routes.proofs.step.is_greatest.Tie as tie
+use Rattle.model.proofs.sign.is_greatest.Statement.{statement}
+use Rattle.model.proofs.sign.is_greatest.Tie as tie
 
 sign-at : (file : List ℕ) (m : Model) (k : ℕ) → k < m .levels → eqb (getD file (16 + k) 0) 1 ≡ sign (systemIn file m) k
 sign-at file m k h = ap (λ (x : ℕ). eqb x 1) (sym (getD-take (m .levels) (drop 16 file) k 0 h ∙ getD-drop 16 file k 0))

@@ -1,4 +1,4 @@
--- `routes::step::count_least` meets its contract. The loop's invariant: the count is that of the levels passed. The measure is the levels left.
+-- `routes::shared::count_least` meets its contract. The loop's invariant: the count is that of the levels passed. The measure is the levels left.
 -- Assumes nothing.
 use mathlib.Core.Logic.{⊎-elim}
 use mathlib.Core.Path.{_≡_, refl, sym, _∙_, ap}
@@ -13,8 +13,8 @@ use Rattle.system.specs.System.{sign}
 use Rattle.model.specs.Held.{systemIn}
 use Rattle.routes.specs.Parts.{leastOf}
 use borrow.Author.Needs.{needs}
-use Rattle.routes.proofs.step.count_least.Statement.{statement}
-use Rattle.routes.proofs.step.count_least.Tie as tie
+use Rattle.routes.proofs.shared.count_least.Statement.{statement}
+use Rattle.routes.proofs.shared.count_least.Tie as tie
 
 abbrev Inv-loop : tie.InvT-loop
 Inv-loop file m d least₀ k₀ least k = (k ≤ d) × (least ≤ k) × (least ≡ leastOf (systemIn file m) k)
