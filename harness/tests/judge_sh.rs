@@ -32,7 +32,8 @@ impl Copy {
         for part in ["crates/judge/src", "target/bin", "bin"] {
             fs::create_dir_all(folder.join(part)).expect("it is made");
         }
-        fs::copy(concat!(env!("CARGO_MANIFEST_DIR"), "/../judge.sh"), folder.join("judge.sh")).expect("it is there");
+        fs::copy(concat!(env!("CARGO_MANIFEST_DIR"), "/../judge.sh"), folder.join("judge.sh"))
+            .expect("it is there");
         fs::write(folder.join("crates.txt"), "judge:\n").expect("it is written");
         fs::write(folder.join("crates/judge/src/main.rt"), "fn main() {}\n").expect("it is written");
         fs::write(folder.join("a.model"), "").expect("it is written");
@@ -54,7 +55,8 @@ impl Copy {
     }
 
     fn run(&self) -> Output {
-        let path = format!("{}:{}", self.folder.join("bin").display(), std::env::var("PATH").expect("there is one"));
+        let path =
+            format!("{}:{}", self.folder.join("bin").display(), std::env::var("PATH").expect("there is one"));
         Command::new(self.folder.join("judge.sh"))
             .arg(self.folder.join("a.model"))
             .env("PATH", path)
@@ -113,7 +115,10 @@ fn a_program_that_rt_leaves_is_as_new_as_the_check() {
 #[test]
 fn a_source_changed_meanwhile_has_it_built_again() {
     let copy = Copy::new("meanwhile");
-    write_script(&copy.folder.join("bin/rt"), "#!/bin/sh\nsleep 0.05\ntouch crates.txt\nsleep 0.05\ntouch target/bin/judge\n");
+    write_script(
+        &copy.folder.join("bin/rt"),
+        "#!/bin/sh\nsleep 0.05\ntouch crates.txt\nsleep 0.05\ntouch target/bin/judge\n",
+    );
     copy.age("crates.txt", 10);
     copy.prints("old", "since crates.txt is newer");
     copy.prints("old", "since crates.txt is newer");

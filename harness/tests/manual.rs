@@ -16,7 +16,16 @@ fn text(path: &str) -> String {
 fn the_example_in_c_prints_what_stands_beside_it() {
     let program = std::env::temp_dir().join(format!("judge_p_{}", std::process::id()));
     let compiled = Command::new("cc")
-        .args(["-std=c99", "-pedantic", "-Wall", "-Wextra", "-Werror", "-I", &root("include"), &root("examples/judge_p.c")])
+        .args([
+            "-std=c99",
+            "-pedantic",
+            "-Wall",
+            "-Wextra",
+            "-Werror",
+            "-I",
+            &root("include"),
+            &root("examples/judge_p.c"),
+        ])
         .arg(root("target/staticlib/libsolver_c.a"))
         .arg("-o")
         .arg(&program)
@@ -39,13 +48,16 @@ fn the_manual_shows_the_example_as_it_is() {
 #[test]
 fn the_manual_shows_the_bytes_of_model_p() {
     let manual = text("docs/MANUAL.md");
-    let rows = manual.split("here they are in hexadecimal").nth(1).and_then(|rest| rest.split("## Trees").next());
+    let rows =
+        manual.split("here they are in hexadecimal").nth(1).and_then(|rest| rest.split("## Trees").next());
     let mut bytes = Vec::new();
     for row in rows.expect("the rows are there").lines().filter(|row| row.starts_with("    ")) {
         let mut words = row.split_whitespace();
         assert_eq!(words.next().and_then(|place| place.parse().ok()), Some(bytes.len()), "{row}");
         let is_byte = |word: &&str| word.len() == 2 && word.bytes().all(|c| c.is_ascii_hexdigit());
-        bytes.extend(words.take_while(is_byte).map(|word| u8::from_str_radix(word, 16).expect("it is hexadecimal")));
+        bytes.extend(
+            words.take_while(is_byte).map(|word| u8::from_str_radix(word, 16).expect("it is hexadecimal")),
+        );
     }
     assert_eq!(bytes, fs::read(root("models/p.model")).expect("it is there"));
 }
