@@ -81,7 +81,7 @@ module _ (s : System) (k p q : ℕ) (few : k < 8) (y : LineCount p) (z : LineCou
       let h = greatest-heights s refl e in
       rw (greatest-queries s refl e, children-of-built q (z .0) (h .1), h .0) at (built-few s (suc k) p q few y z)
 
--- The number that falls with each call is made of the levels left and of the leaves of the two trees (Levels.antt).
+-- The number that falls with each call is made of the levels left and of the leaves of the two trees (fallingNumber in routes).
 module _ (s : System) (k p q : ℕ) where
   abbrev pub levelNumber : ℕ
   levelNumber = fallingNumber k (built p (leastOf s k)) (built q (greatestOf s k))

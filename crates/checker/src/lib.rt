@@ -1,4 +1,4 @@
-// Checking a file: document 01's refusals 1 to 8.
+// Checking a file: document 01's refusals 1 to 8. Definitions: specs/.
 ghost use mathlib.Core.Path.{_≡_};
 ghost use Prim.Native.Nat.{_+_, _*_, _≤_};
 ghost use lib.Dec.{ltb};

@@ -1,4 +1,4 @@
-// The plain route: rounds of each level from its own start, under a ceiling on the queries.
+// The plain route: rounds of each level from its own start, under a ceiling on the queries. Definitions: specs/.
 ghost use mathlib.Core.Path.{_≡_};
 ghost use mathlib.Core.Bool.{cond};
 ghost use mathlib.Core.List.{List};

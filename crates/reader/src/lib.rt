@@ -1,4 +1,4 @@
-// Reading a file into lent slices.
+// Reading a file into lent slices. Definitions: specs/.
 ghost use Rattle.reader.specs.Says.{ReadSays};
 use answers::Refusal;
 use checker::check;

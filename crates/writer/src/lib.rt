@@ -1,4 +1,4 @@
-// Writing a model's file into a lent buffer.
+// Writing a model's file into a lent buffer. Definitions: specs/.
 ghost use mathlib.Core.Path.{_≡_};
 ghost use mathlib.Core.List.{[]};
 ghost use Prim.Native.Nat.{_*_, _≤_};
