@@ -27,7 +27,7 @@ fn set_age(path: &Path, seconds: i64) {
 impl Copy {
     /// A program newer than all of its sources, and an `rt` that builds another one.
     fn new(name: &str) -> Copy {
-        let folder = std::env::temp_dir().join(format!("judge_sh_{name}_{}", std::process::id()));
+        let folder = Path::new(env!("CARGO_TARGET_TMPDIR")).join(format!("judge_sh_{name}"));
         let _ = fs::remove_dir_all(&folder);
         for part in ["crates/judge/src", "target/bin", "bin"] {
             fs::create_dir_all(folder.join(part)).expect("it is made");

@@ -2,6 +2,7 @@
 //! as they are; its rows of model P's bytes are the sample model.
 
 use std::fs;
+use std::path::Path;
 use std::process::Command;
 
 fn root(path: &str) -> String {
@@ -14,7 +15,7 @@ fn text(path: &str) -> String {
 
 #[test]
 fn the_example_in_c_prints_what_stands_beside_it() {
-    let program = std::env::temp_dir().join(format!("judge_p_{}", std::process::id()));
+    let program = Path::new(env!("CARGO_TARGET_TMPDIR")).join("judge_p");
     let compiled = Command::new("cc")
         .args([
             "-std=c99",
