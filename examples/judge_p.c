@@ -1,7 +1,7 @@
 /* Writes the file of a small model, reads it back, and judges it in each of the three ways.
  *
  *   rt staticlib solver_c
- *   cc -std=c99 -I include examples/judge_p.c target/staticlib/libsolver_c.a -o judge_p && ./judge_p
+ *   cc -std=c99 -I include examples/judge_p.c target/staticlib/libsolver_c.a -o target/judge_p && target/judge_p
  */
 #include <inttypes.h>
 #include <stdio.h>
