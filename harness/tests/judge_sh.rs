@@ -50,6 +50,14 @@ impl Copy {
         copy
     }
 
+    /// A program older than crates.txt, and an `rt` that runs these commands.
+    fn stale(name: &str, rt: &str) -> Copy {
+        let copy = Copy::new(name);
+        write_script(&copy.folder.join("bin/rt"), &format!("#!/bin/sh\n{rt}\n"));
+        copy.age("crates.txt", 10);
+        copy
+    }
+
     fn age(&self, path: &str, seconds: i64) {
         set_age(&self.folder.join(path), seconds);
     }
@@ -104,9 +112,7 @@ fn a_newer_source_has_it_built_again_once() {
 /// `rt` leaves a program as it is where the newer file is none of its own; that, too, is asked once.
 #[test]
 fn a_program_that_rt_leaves_is_as_new_as_the_check() {
-    let copy = Copy::new("left");
-    write_script(&copy.folder.join("bin/rt"), "#!/bin/sh\nexit 0\n");
-    copy.age("crates.txt", 10);
+    let copy = Copy::stale("left", "exit 0");
     copy.prints("old", "since crates.txt is newer");
     copy.prints("old", "");
 }
@@ -114,22 +120,14 @@ fn a_program_that_rt_leaves_is_as_new_as_the_check() {
 /// A source that changes while the program is built is newer than the program.
 #[test]
 fn a_source_changed_meanwhile_has_it_built_again() {
-    let copy = Copy::new("meanwhile");
-    write_script(
-        &copy.folder.join("bin/rt"),
-        "#!/bin/sh\nsleep 0.05\ntouch crates.txt\nsleep 0.05\ntouch target/bin/judge\n",
-    );
-    copy.age("crates.txt", 10);
+    let copy = Copy::stale("meanwhile", "sleep 0.05; touch crates.txt; sleep 0.05; touch target/bin/judge");
     copy.prints("old", "since crates.txt is newer");
     copy.prints("old", "since crates.txt is newer");
 }
 
 #[test]
 fn nothing_is_judged_where_the_program_is_not_proved() {
-    let copy = Copy::new("not_proved");
-    write_script(&copy.folder.join("bin/rt"), "#!/bin/sh\nexit 1\n");
-    copy.age("crates.txt", 10);
-    let output = copy.run();
+    let output = Copy::stale("not_proved", "exit 1").run();
     assert_eq!(output.status.code(), Some(1));
     assert!(output.stdout.is_empty());
     assert!(String::from_utf8_lossy(&output.stderr).contains("nothing is judged"));
