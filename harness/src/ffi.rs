@@ -36,6 +36,13 @@ mod raw {
             arguments_len: usize,
             answer: *mut u64,
         );
+        pub fn solver_page(
+            file: *const u8,
+            file_len: usize,
+            buffer: *mut u8,
+            buffer_len: usize,
+            answer: *mut u64,
+        );
         pub fn solver_leaf_count(n: usize, h: usize, answer: *mut u64);
     }
 }
@@ -131,6 +138,12 @@ pub mod earlier {
     use super::{answered, Answer};
 
     judgings!(earlier_plain, earlier_built, earlier_lent);
+}
+
+pub fn page(file: &[u8], buffer: &mut [u8]) -> Answer {
+    answered(|answer| unsafe {
+        raw::solver_page(file.as_ptr(), file.len(), buffer.as_mut_ptr(), buffer.len(), answer)
+    })
 }
 
 pub fn leaf_count(n: usize, h: usize) -> Answer {

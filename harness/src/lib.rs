@@ -3,11 +3,13 @@
 //! - `ffi`: the engine's operations.
 //! - `reference`: an unrelated implementation of document 01, which the tests compare the engine with.
 //! - `random`: models, files, bounds and trees from a seed.
+//! - `lent`: what the tests lend to operations, and which answers came up.
 //! - `baseline`: the routes in Rust, which the benchmark compares the engine's speed with.
 
 mod answer;
 pub mod baseline;
 pub mod ffi;
+pub mod lent;
 pub mod random;
 pub mod reference;
 

@@ -1,31 +1,9 @@
 //! Reading and writing against the reference: answers, and every byte and word that was lent.
 
-use std::collections::BTreeMap;
-use std::fmt::Debug;
-
+use harness::lent::{Lent, Seen};
 use harness::random::{self, Random, Written, WRITTEN_DAMAGES};
 use harness::reference::model::Parts;
 use harness::{ffi, reference, Answer};
-
-/// A slice lent to an operation, with entries before and behind it that are none of the operation's business.
-#[derive(Clone, Debug, PartialEq)]
-struct Lent<T> {
-    entries: Vec<T>,
-}
-
-impl<T: Copy + Debug + PartialEq> Lent<T> {
-    const MARGIN: usize = 9;
-
-    /// A lent slice of this length; `fill` gives so many entries.
-    fn new(length: usize, mut fill: impl FnMut(usize) -> Vec<T>) -> Lent<T> {
-        Lent { entries: fill(length + 2 * Self::MARGIN) }
-    }
-
-    fn slice(&mut self) -> &mut [T] {
-        let end = self.entries.len() - Self::MARGIN;
-        &mut self.entries[Self::MARGIN..end]
-    }
-}
 
 /// Reads a file into slices of these lengths, by the engine and by the reference, and compares all they leave.
 fn read_both(random: &mut Random, file: &[u8], lengths: [usize; 3]) -> Answer {
@@ -58,23 +36,6 @@ fn some_written(random: &mut Random, n: usize, d: usize) -> Written {
 
 fn file_length(n: usize, d: usize) -> usize {
     16 + d + n + 8 * n * d
-}
-
-/// How often each number was answered.
-#[derive(Default)]
-struct Seen(BTreeMap<u64, usize>);
-
-impl Seen {
-    fn note(&mut self, answer: Answer) {
-        *self.0.entry(answer.number).or_default() += 1;
-    }
-
-    fn assert_each(&self, numbers: &[u64], least: usize) {
-        for number in numbers {
-            let times = self.0.get(number).copied().unwrap_or(0);
-            assert!(times >= least, "number {number} came up {times} times only");
-        }
-    }
 }
 
 #[test]

@@ -1,6 +1,7 @@
 -- What it means that a file and its bounds are admitted: the file is whole, the bounds are a range of its lines, and no number up to 9 applies.
+-- From no line to all lines, 9 never applies.
 -- Assumes nothing.
-use mathlib.Core.Bool.{false, not, _||_}
+use mathlib.Core.Bool.{Bool, false, not, _||_}
 use mathlib.Mathlib.Data.Bool.Basic.{or-eq-false-eq-eq-false-and-eq-false as neither}
 use mathlib.Core.List.{List, [], _∷_, _++_}
 use mathlib.Core.Path.{_≡_, refl, sym, ap₂, subst}
@@ -8,9 +9,9 @@ use Prim.Native.Nat.{ℕ, _≤_}
 use borrow.Author.Tests.{not-false}
 use Rattle.answers.specs.Check.{Check, _if_, firstOf, unless}
 use Rattle.answers.specs.declared.Refusal.{Refusal}
-use Rattle.answers.proofs.Checks.{Passes, passes-both, passes-none, none-first, after-none}
+use Rattle.answers.proofs.Checks.{Passes, passes-both, passes-none, none-first, after-none, before-passes}
 use Rattle.sets.specs.Set.{full, isWithin}
-use Rattle.sets.proofs.Order.{within-le}
+use Rattle.sets.proofs.Order.{refl⊑, empty-least, within-le, le-within}
 use Rattle.sets.proofs.Range.{full-below}
 use Rattle.fixpoint.specs.Lawful.{Range}
 use Rattle.fixpoint.specs.Sets.{sets}
@@ -78,3 +79,12 @@ module _ (file : List ℕ) (a b : ℕ) where
   pub after-bounds : (more : List Check) → boundNumber file a b ≡ 0 → firstOf (boundChecks file a b ++ more) ≡ firstOf more
   unfolding boundNumber
   after-bounds more = after-none (boundChecks file a b) more refl
+
+-- no line and all lines are bounds of n lines
+well-placed : (n : ℕ) → misplaced n 0 (full n) ≡ false
+well-placed n = ap₂ (λ (s t : Bool). not s || (not t || not s)) (le-within 0 (full n) (empty-least (full n))) (le-within (full n) (full n) (refl⊑ (full n)))
+
+-- so what is turned down between them is the file
+pub never-misplaced : (file : List ℕ) → boundNumber file 0 (full (linesIn file)) ≡ fileNumber file
+unfolding boundNumber fileNumber
+never-misplaced file = before-passes (fileChecks file) (9 if misplaced (linesIn file) 0 (full (linesIn file)) ∷ []) (well-placed (linesIn file), tt)

@@ -65,6 +65,11 @@ none-first (c ∷ cs) p h = at (c .applies) (none-first cs (both .1)) h
 pub after-none : (cs ds : List Check) → numbered cs ≡ true → firstOf cs ≡ 0 → firstOf (cs ++ ds) ≡ firstOf ds
 after-none cs ds p h = first-after cs ds (none-first cs p h)
 
+-- checks behind them of which none applies change nothing
+pub before-passes : (cs ds : List Check) → Passes ds → firstOf (cs ++ ds) ≡ firstOf cs
+before-passes [] ds h = passes-none ds h
+before-passes (c ∷ cs) ds h = ap (λ (e : ℕ). cond (c .applies) (c .number) e) (before-passes cs ds h)
+
 -- a count that is not outside is 1 to `most`
 pub inside : (most n : ℕ) → outside most n ≡ false → (0 < n) × (n ≤ most)
 inside most n h =

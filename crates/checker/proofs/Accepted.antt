@@ -2,9 +2,10 @@
 -- Assumes nothing.
 use mathlib.Core.Bool.{true}
 use mathlib.Core.List.{List, _++_}
-use mathlib.Core.Path.{_≡_, refl, ap₂}
+use mathlib.Core.Path.{_≡_, refl, _∙_, ap, ap₂}
 use mathlib.Mathlib.Data.Bool.Basic.{or-eq-false-eq-eq-false-and-eq-false as neither}
-use Prim.Native.Nat.{ℕ, _*_, _^_, _≤_, _<_}
+use Prim.Native.Nat.{ℕ, _*_, _^_, _≤_, _<_, min}
+use native.Mathlib.Nat.{min-eq-left}
 use native.Mathlib.Omega.{arith}
 use lib.Dec.{ltb}
 use lib.ListN.{length, getD, length-drop}
@@ -21,6 +22,7 @@ use Rattle.answers.specs.declared.Refusal.{Refusal}
 use Rattle.model.specs.declared.layout.Model.{Model}
 use Rattle.model.specs.declared.layout.Reading.{Reading}
 use Rattle.model.specs.declared.layout.Reading.the-variants as reading
+use Rattle.sets.specs.Set.{full}
 use Rattle.sets.proofs.Order.{within-le}
 use Rattle.sets.proofs.Range.{full-below}
 use Rattle.model.proofs.Searches.{false-below, false-some}
@@ -120,6 +122,10 @@ module _ (file : List ℕ) {a : Reading} (h : readingAnswer a ≡ checkAnswer fi
 
   pub refused : {r : Refusal} → a ≡ reading.Refused r → RefusedAs (fileNumber file) r
   refused = refused-as (fileNumber file) (linesIn file) (levelsIn file) h
+
+-- the mask of all lines of an accepted file, as `full_set` gives it
+pub all-lines : (file : List ℕ) {m : Model} {all : ℕ} → Checked file m → all ≡ full (min (m .lines) 64) → all ≡ full (linesIn file)
+all-lines file known mask = mask ∙ ap full (min-eq-left (known .limits .0) ∙ known .counts .lines)
 
 -- further checks are made of an accepted file alone
 pub after-file : (file : List ℕ) (more : List Check) → fileNumber file ≡ 0 → firstOf (fileChecks file ++ more) ≡ firstOf more

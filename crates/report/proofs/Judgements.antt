@@ -1,31 +1,21 @@
 -- The text in terms of the judgements: a refused file's line, and of an accepted file the lines of both judgings from no line to all lines.
--- The tree line is never a refusal, since these bounds are never misplaced.
 -- Assumes nothing.
-use mathlib.Core.Bool.{Bool, false, cond, not, _||_}
-use mathlib.Core.List.{List, [], _∷_, _++_}
+use mathlib.Core.List.{List, _++_}
 use mathlib.Core.Path.{_≡_, sym, _∙_, ap, ap₂}
 use Prim.Native.Nat.{ℕ, zero, suc, min, _<_}
-use native.Mathlib.Nat.{min-eq-left}
 use native.Mathlib.Omega.{arith}
 use Rattle.answers.specs.Answer.{Answer, numberOf}
-use Rattle.answers.specs.Check.{_if_}
 use Rattle.answers.specs.declared.Refusal.{Refusal}
 use Rattle.sets.specs.Set.{full}
-use Rattle.sets.proofs.Order.{refl⊑, empty-least, le-within}
 use Rattle.model.specs.File.{linesIn, decode}
 use Rattle.checker.specs.Checks.{fileNumber}
 use Rattle.model.specs.declared.layout.Model.{Model}
 use Rattle.model.proofs.Refusals.{RefusedAs}
-use Rattle.checker.proofs.Accepted.{Checked, after-file}
-use Rattle.admission.specs.Checks.{misplaced, boundNumber}
-use Rattle.solver.specs.Checks.{builtNumber}
+use Rattle.checker.proofs.Accepted.{Checked, all-lines}
 use Rattle.solver.specs.Says.{judgedAnswer, PlainSays, BuiltSays}
 use Rattle.solver.specs.declared.Judged.{Judged}
-use Rattle.report.specs.Report.{plainWord, treeWord, refusedLine, answerLine, shareLine, linesOrRefused, reportText}
-
--- no line and all lines are bounds of n lines
-well-placed : (n : ℕ) → misplaced n 0 (full n) ≡ false
-well-placed n = ap₂ (λ (s t : Bool). not s || (not t || not s)) (le-within 0 (full n) (empty-least (full n))) (le-within (full n) (full n) (refl⊑ (full n)))
+use Rattle.text.specs.Text.{refusedLine}
+use Rattle.report.specs.Report.{plainWord, treeWord, answerLine, shareLine, linesOrRefused, reportText}
 
 module _ (file : List ℕ) where
   -- a refused file's text is its refusal's line
@@ -37,17 +27,12 @@ module _ (file : List ℕ) where
       at zero p q = absurd (omega arith)
       at (suc n) p q = ap refusedLine p
 
-  -- between no line and all lines an accepted file is judged over the built-in trees
-  pub never-misplaced : fileNumber file ≡ 0 → builtNumber file 0 (full (decode file .lines)) ≡ 0
-  unfolding boundNumber decode
-  never-misplaced h = after-file file (9 if misplaced (linesIn file) 0 (full (linesIn file)) ∷ []) h ∙ ap (λ (t : Bool). cond t 9 0) (well-placed (linesIn file))
-
   -- the three lines, from what the file's check, its mask of all lines and both judgings say
   pub accepted-text : {m : Model} {all : ℕ} {p t : Judged} → Checked file m → all ≡ full (min (m .lines) 64) → PlainSays file 0 all 1000000 p → BuiltSays file 0 all t
       → plainWord ++ (answerLine (judgedAnswer p) ++ (treeWord ++ (answerLine (judgedAnswer t) ++ shareLine (judgedAnswer t .set) (m .lines)))) ≡ reportText file
   unfolding reportText decode
   accepted-text {m} {all} {p} {t} known mask plain tree =
-      let lines : all ≡ full (linesIn file) = mask ∙ ap full (min-eq-left (known .limits .0) ∙ known .counts .lines) in
+      let lines = all-lines file known mask in
       let last : Answer → List ℕ = λ x. treeWord ++ (answerLine x ++ shareLine (x .set) (linesIn file)) in
       ap (λ (n : ℕ). plainWord ++ (answerLine (judgedAnswer p) ++ (treeWord ++ (answerLine (judgedAnswer t) ++ shareLine (judgedAnswer t .set) n)))) (known .counts .lines)
       ∙ ap₂ (λ (x y : Answer). plainWord ++ (answerLine x ++ last y)) ((rw lines at plain) .answer) ((rw lines at tree) .answer)

@@ -10,7 +10,7 @@ use Rattle.sets.specs.Set.{full, members}
 use Rattle.model.specs.File.{decode}
 use Rattle.checker.specs.Checks.{fileNumber}
 use Rattle.solver.specs.Says.{plainAnswer, builtAnswer}
-use Rattle.text.specs.Text.{hex, decimal, shareOf}
+use Rattle.text.specs.Text.{hex, numberLine, refusedLine, shareOf}
 
 -- the words of the output, in ASCII, each with a blank behind it
 abbrev pub plainWord : List ℕ
@@ -22,16 +22,9 @@ treeWord = 116 ∷ 114 ∷ 101 ∷ 101 ∷ 32 ∷ []
 abbrev pub shareWord : List ℕ
 shareWord = 115 ∷ 104 ∷ 97 ∷ 114 ∷ 101 ∷ 32 ∷ []
 
-abbrev pub refusedWord : List ℕ
-refusedWord = 114 ∷ 101 ∷ 102 ∷ 117 ∷ 115 ∷ 101 ∷ 100 ∷ 32 ∷ []
-
--- `refused`, a blank and the number
-abbrev pub refusedLine : ℕ → List ℕ
-refusedLine e = refusedWord ++ (decimal e ++ (10 ∷ []))
-
 -- the set as 16 hexadecimal digits, a blank and the decimal count
 abbrev pub foundLine : ℕ → ℕ → List ℕ
-foundLine set count = hex set ++ (32 ∷ (decimal count ++ (10 ∷ [])))
+foundLine set count = hex set ++ numberLine (32 ∷ []) count
 
 -- by the number with which judging refuses, or 0
 abbrev pub foundOrRefused : ℕ → ℕ → ℕ → List ℕ
@@ -44,7 +37,7 @@ answerLine x = foundOrRefused (x .number) (x .set) (x .count)
 
 -- the line of the share of a set in n lines
 abbrev pub shareLine : ℕ → ℕ → List ℕ
-shareLine set n = shareWord ++ (decimal (shareOf (members set) n) ++ (10 ∷ []))
+shareLine set n = numberLine shareWord (shareOf (members set) n)
 
 -- the three lines for a file: both judgings from no line to all, plainly under a ceiling of 1,000,000
 abbrev pub threeLines : List ℕ → List ℕ

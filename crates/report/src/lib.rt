@@ -1,16 +1,15 @@
 // The judging program's text for an input. Definitions: specs/.
 ghost use Prim.Native.Nat.{_+_, _≤_};
 ghost use lib.ListN.{length};
-ghost use Rattle.answers.specs.Answer.{numberOf};
 ghost use Rattle.solver.specs.Says.{judgedAnswer};
 ghost use Rattle.text.specs.Text.{Puts};
-ghost use Rattle.report.specs.Report.{refusedLine, foundLine, answerLine, shareLine, madeText};
-use answers::Refusal;
+ghost use Rattle.report.specs.Report.{foundLine, answerLine, shareLine, madeText};
 use model::Reading;
 use solver::Judged;
 use text::put;
-use text::put_decimal;
 use text::put_hex;
+use text::put_number_line;
+use text::put_refused;
 
 // The text of any input fits in so many bytes.
 pub const REPORT_SIZE: usize = 128;
@@ -18,25 +17,13 @@ pub const REPORT_SIZE: usize = 128;
 // The most queries that judging plainly may make.
 const PLAIN_CEILING: u64 = 1_000_000;
 
-// A refusal's line.
-fn put_refused(out: &mut [u8], at: usize, e: Refusal) -> usize
-    requires { ⌜ at + 29 ≤ length (now out) ⌝ }
-    ensures { λ r. ⌜ Puts at (refusedLine (numberOf e)) (now (out .entry)) (now (out .exit)) r ⌝ }
-{
-    let word = put(out, at, b"refused ");
-    let number = put_decimal(out, word, answers::number(e));
-    put(out, number, b"\n")
-}
-
 // The rest of a line for a set and its count.
 fn put_found(out: &mut [u8], at: usize, set: u64, count: u64) -> usize
     requires { ⌜ at + 38 ≤ length (now out) ⌝ }
     ensures { λ r. ⌜ Puts at (foundLine set count) (now (out .entry)) (now (out .exit)) r ⌝ }
 {
     let digits = put_hex(out, at, set);
-    let blank = put(out, digits, b" ");
-    let number = put_decimal(out, blank, count);
-    put(out, number, b"\n")
+    put_number_line(out, digits, b" ", count)
 }
 
 // The rest of a line for a judgement.
@@ -46,7 +33,7 @@ fn put_judged(out: &mut [u8], at: usize, j: Judged) -> usize
 {
     match j {
         Judged::Found { set, count } => put_found(out, at, set, count),
-        Judged::Refused(e) => put_refused(out, at, e),
+        Judged::Refused(e) => put_refused(out, at, answers::number(e)),
     }
 }
 
@@ -59,9 +46,8 @@ fn put_share(out: &mut [u8], at: usize, j: Judged, n: usize) -> usize
         Judged::Found { set, count: _ } => set,
         Judged::Refused(_) => 0,
     };
-    let word = put(out, at, b"share ");
-    let number = put_decimal(out, word, text::share(sets::member_count(set), n as u32));
-    put(out, number, b"\n")
+    let share = text::share(sets::member_count(set), n as u32);
+    put_number_line(out, at, b"share ", share)
 }
 
 // Puts the text for an input into a buffer of at least REPORT_SIZE bytes, keeps the bytes behind it, and answers its length;
@@ -75,7 +61,7 @@ pub fn report(file: &[u8], out: &mut [u8]) -> usize
     let counts = checker::check(file);
     let m = match counts {
         Reading::Accepted(m) => m,
-        Reading::Refused(e) => return put_refused(out, 0, e),
+        Reading::Refused(e) => return put_refused(out, 0, answers::number(e)),
     };
     let all = sets::full_set(m.lines);
     let plain = put(out, 0, b"plain ");

@@ -31,5 +31,8 @@ counted-step b ih a h =
 counted : (b : ℕ) → Counted b
 counted = bin-ind Counted (λ a h. let e : a ≡ 0 = sym h ∙ and-zero-r a in (le-of-eq (ap members e), λ _. e)) counted-step
 
+pub members-most : (a b : ℕ) → a ⊑ b → members a ≤ members b
+members-most a b h = counted b a h .0
+
 pub members-strict : (a b : ℕ) → a ⊑ b → (a ≡ b → ⊥) → members a < members b
-members-strict a b h ne = lt-of-le-ne (counted b a h .0) (λ e. ne (counted b a h .1 e))
+members-strict a b h ne = lt-of-le-ne (members-most a b h) (λ e. ne (counted b a h .1 e))

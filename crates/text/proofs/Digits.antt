@@ -3,14 +3,15 @@
 use mathlib.Core.Bool.{Bool, true, false, cond}
 use mathlib.Core.List.{List, [], _∷_, _++_, append-nil, append-assoc}
 use mathlib.Core.Path.{_≡_, refl, sym, _∙_, ap, ap₂}
-use Prim.Native.Nat.{ℕ, zero, suc, _+_, _/_, _%_, _≤_}
-use native.Mathlib.Nat.{add-zero}
+use Prim.Native.Nat.{ℕ, zero, suc, _+_, _-_, _/_, _%_, _^_, _≤_, _<_}
+use native.Mathlib.Nat.{add-zero, pow-suc, div-lt-iff-lt-mul}
 use native.Mathlib.Omega.{arith}
-use lib.Dec.{ltb}
-use lib.ListN.{length, set, take, drop, length-append, length-set, take-append-drop}
-use lib.Seq.{take-length, drop-drop, paste, length-paste, take-paste, drop-paste}
-use Rattle.lists.proofs.Front.{back-store}
-use Rattle.text.specs.Text.{digit, digits, places, decimal, hex, pasted, Puts}
+use lib.Dec.{ltb, lit<}
+use borrow.Author.Tests.{lt-ltb}
+use lib.ListN.{length, set, take, drop, length-append, length-set, length-replicate, replicate-append-replicate, take-append-drop}
+use lib.Seq.{take-length, length-take-le, drop-drop, paste, length-paste, take-paste, drop-paste}
+use Rattle.lists.proofs.Front.{front-store, back-store}
+use Rattle.text.specs.Text.{digit, digits, places, decimal, hex, blanks, setRight, numberLine, refusedWord, refusedLine, pasted, Puts}
 
 pub digits-length : (base k x : ℕ) → length (digits base k x) ≡ k
 unfolding digits
@@ -81,11 +82,33 @@ places-few (suc k) x = go (ltb x 10) (places-few k (x / 10))
     go true h = omega arith
     go false h = omega arith
 
+-- a number below 10 ^ k has at most k digits, one at the least
+pub places-within : (m k x : ℕ) → 1 ≤ k → x < 10 ^ k → places m x ≤ k
+unfolding places
+places-within m zero x some h = absurd (omega arith)
+places-within zero (suc k) x some h = omega arith
+places-within (suc m) (suc zero) x some h = rw (lt-ltb x 10 h) (omega arith)
+places-within (suc m) (suc (suc k)) x some h = go (ltb x 10) (places-within m (suc k) (x / 10) (omega arith) (div-lt-iff-lt-mul (lit< tt) .1 (rw pow-suc at h)))
+  where
+    go : (t : Bool) → places m (x / 10) ≤ suc k → cond t 1 (suc (places m (x / 10))) ≤ suc (suc k)
+    go true l = omega arith
+    go false l = omega arith
+
 pub decimal-few : (x : ℕ) → length (decimal x) ≤ 20
 decimal-few x = omega (arith, digits-length 10 (places 19 x) x, places-few 19 x)
 
+pub number-line-few : (word : List ℕ) (x : ℕ) → length (numberLine word x) ≤ length word + 21
+number-line-few word x = omega (arith, length-append word (decimal x ++ (10 ∷ [])), length-append (decimal x) (10 ∷ []), decimal-few x)
+
+pub refused-few : (e : ℕ) → length (refusedLine e) ≤ 29
+refused-few e = number-line-few refusedWord e
+
 pub hex-long : (x : ℕ) → length (hex x) ≡ 16
 hex-long x = digits-length 16 16 x
+
+-- no text leaves a buffer as it was
+pub puts-nothing : (at : ℕ) (out : List ℕ) → Puts at [] out out at
+puts-nothing at out = record { end = sym (add-zero at); left = rw (add-zero at) (sym (take-append-drop at out)) }
 
 -- a text put, and another behind it
 pub puts-then : {at r r′ : ℕ} {s t out mid out′ : List ℕ} → at ≤ length out → Puts at s out mid r → Puts r t mid out′ r′ → Puts at (s ++ t) out out′ r′
@@ -102,3 +125,26 @@ puts-length {at} {r} {s} {out} h p = ap length (p .left) ∙ pasted-length at s 
 -- a text at the start of a buffer lies within it
 pub puts-fits : {r : ℕ} {s out out′ : List ℕ} → Puts 0 s out out′ r → r ≤ length out′
 puts-fits {s = s} {out = out} p = omega (arith, p .end, ap length (p .left), length-append s (drop (0 + length s) out))
+
+-- blanks are put one by one from the front
+pub blanks-length : (k : ℕ) → length (blanks k) ≡ k
+blanks-length k = length-replicate {A = ℕ} k 32
+
+pub one-more-blank : {at : ℕ} {out mid : List ℕ} (i : ℕ) → at + i < length out → Puts at (blanks i) out mid (at + i)
+    → Puts at (blanks (i + 1)) out (set mid (at + i) 32) (at + (i + 1))
+one-more-blank {at} {out} {mid} i h p =
+    let front : length (take at out ++ blanks i) ≡ at + i = omega (arith, length-append (take at out) (blanks i), blanks-length i, length-take-le at out (omega arith)) in
+    let next : at + i + 1 ≡ at + length (blanks (i + 1)) = omega (arith, blanks-length (i + 1)) in
+    let held : mid ≡ (take at out ++ blanks i) ++ drop (at + i) out = p .left ∙ rw (blanks-length i) (sym (append-assoc (take at out) (blanks i) (drop (at + i) out))) in
+    record {
+      end = omega arith;
+      left = front-store (take at out ++ blanks i) out mid (at + i) 32 front h held
+          ∙ ap₂ (λ (x : List ℕ) (n : ℕ). x ++ drop n out) (append-assoc (take at out) (blanks i) (32 ∷ []) ∙ ap (λ (x : List ℕ). take at out ++ x) (replicate-append-replicate i 1 32))
+          next
+          ∙ append-assoc (take at out) (blanks (i + 1)) (drop (at + length (blanks (i + 1))) out);
+    }
+
+-- a number below 10 ^ k, set to the right in k places
+pub right-length : (k x : ℕ) → 1 ≤ k → x < 10 ^ k → length (setRight k (decimal x)) ≡ k
+right-length k x some h =
+    omega (arith, length-append (blanks (k - length (decimal x))) (decimal x), blanks-length (k - length (decimal x)), digits-length 10 (places 19 x) x, places-within 19 k x some h)

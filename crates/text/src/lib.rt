@@ -1,8 +1,8 @@
-// Numbers as text, put into a lent buffer, and the share. Definitions: specs/.
+// Texts and numbers as text, put into a lent buffer, and the share. Definitions: specs/.
 ghost use mathlib.Core.Path.{_≡_};
-ghost use Prim.Native.Nat.{_+_, _≤_, _<_};
+ghost use Prim.Native.Nat.{_+_, _^_, _≤_, _<_};
 ghost use lib.ListN.{length};
-ghost use Rattle.text.specs.Text.{digit, digits, places, hex, decimal, shareOf, Puts};
+ghost use Rattle.text.specs.Text.{digit, digits, places, hex, decimal, blanks, setRight, numberLine, refusedLine, shareOf, Puts};
 
 // Puts a text at a place, and answers the place behind it.
 pub fn put(out: &mut [u8], at: usize, text: &[u8]) -> usize
@@ -10,6 +10,19 @@ pub fn put(out: &mut [u8], at: usize, text: &[u8]) -> usize
     ensures { λ r. ⌜ Puts at (now (text .entry)) (now (out .entry)) (now (out .exit)) r ⌝ }
 {
     at + bytes::copy(text, &mut out[at..])
+}
+
+// Puts so many blanks.
+pub fn put_blanks(out: &mut [u8], at: usize, count: usize) -> usize
+    requires { ⌜ at + count ≤ length (now out) ⌝ }
+    ensures { λ r. ⌜ Puts at (blanks count) (now (out .entry)) (now (out .exit)) r ⌝ }
+{
+    let mut i = 0;
+    while i < count {
+        out[at + i] = b' ';
+        i += 1;
+    }
+    at + count
 }
 
 // A digit in ASCII.
@@ -63,6 +76,35 @@ pub fn put_decimal(out: &mut [u8], at: usize, x: u64) -> usize
     ensures { λ r. ⌜ Puts at (decimal x) (now (out .entry)) (now (out .exit)) r ⌝ }
 {
     put_digits(out, at, 10, decimal_places(x), x)
+}
+
+// A decimal number of at most k places, set to the right in k places.
+pub fn put_right(out: &mut [u8], at: usize, k: usize, x: u64) -> usize
+    requires { ⌜ (1 ≤ k) × (x < 10 ^ k) ⌝ }
+    requires { ⌜ at + k ≤ length (now out) ⌝ }
+    ensures { λ r. ⌜ Puts at (setRight k (decimal x)) (now (out .entry)) (now (out .exit)) r ⌝ }
+{
+    let places = decimal_places(x);
+    let digits = put_blanks(out, at, k - places);
+    put_digits(out, digits, 10, places, x)
+}
+
+// A line: a word and a decimal number.
+pub fn put_number_line(out: &mut [u8], at: usize, word: &[u8], x: u64) -> usize
+    requires { ⌜ at + length (now word) + 21 ≤ length (now out) ⌝ }
+    ensures { λ r. ⌜ Puts at (numberLine (now (word .entry)) x) (now (out .entry)) (now (out .exit)) r ⌝ }
+{
+    let number = put(out, at, word);
+    let end = put_decimal(out, number, x);
+    put(out, end, b"\n")
+}
+
+// The line of a refusal.
+pub fn put_refused(out: &mut [u8], at: usize, number: u64) -> usize
+    requires { ⌜ at + 29 ≤ length (now out) ⌝ }
+    ensures { λ r. ⌜ Puts at (refusedLine number) (now (out .entry)) (now (out .exit)) r ⌝ }
+{
+    put_number_line(out, at, b"refused ", number)
 }
 
 // 1000 times good over n, rounded to a whole number, a half upwards; of no lines, 0.

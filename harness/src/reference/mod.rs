@@ -5,10 +5,12 @@ pub mod game;
 pub mod model;
 pub mod nested;
 mod operations;
+pub mod page;
 pub mod plain;
 pub mod restricted;
 pub mod tree;
 
 pub use model::{set_of, word_of, Model, Operand, Set};
 pub use operations::{built, judgeable, leaf_count, lent, plain, query, read, write};
+pub use page::{page, page_text, share};
 pub use tree::Tree;

@@ -1,0 +1,53 @@
+-- `bench_page::put_kind` meets its contract: each kind has its word.
+-- Assumes nothing.
+use mathlib.Core.List.{[], _∷_}
+use mathlib.Core.Path.{_≡_, refl}
+use Prim.Native.Nat.{ℕ, zero, suc}
+use Rattle.bench_page.specs.Page.{kindWord}
+use borrow.Author.Needs.{needs}
+use Rattle.bench_page.proofs.put_kind.Statement.{statement}
+use Rattle.bench_page.proofs.put_kind.Tie as tie
+
+-- every kind but 0 is all
+other-kind : (kind : ℕ) → (kind ≡ 0 → ⊥) → kindWord kind ≡ 97 ∷ 108 ∷ 108 ∷ []
+other-kind zero h = absurd (h refl)
+other-kind (suc k) h = refl
+
+slice-aggregate-put : tie.Need-slice-aggregate-put
+slice-aggregate-put c = search needs
+
+put-requires : tie.Need-put-requires
+put-requires c κs = search needs
+
+slice-aggregate-put-2 : tie.Need-slice-aggregate-put-2
+slice-aggregate-put-2 c = search needs
+
+put-requires-2 : tie.Need-put-requires-2
+put-requires-2 c κs = search needs
+
+same-length : tie.Need-same-length
+same-length c = search needs
+
+returns : tie.Need-returns
+returns c = rw (c .before .before .before .before .before .if1 .taken) (c .before .before .put .ensures)
+
+same-length-2 : tie.Need-same-length-2
+same-length-2 c = search needs
+
+returns-2 : tie.Need-returns-2
+returns-2 c =
+    let test = c .before .before .before .before .before in
+    rw (other-kind (test .before .before .args .kind) (test .if1 .left)) (c .before .before .put2 .ensures)
+
+pub put-kind-spec : {M : Type 1} → statement M
+put-kind-spec =
+    tie.close
+    (tie.spec
+    slice-aggregate-put
+    put-requires
+    slice-aggregate-put-2
+    put-requires-2
+    same-length
+    returns
+    same-length-2
+    returns-2)

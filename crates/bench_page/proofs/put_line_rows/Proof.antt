@@ -1,0 +1,112 @@
+-- `bench_page::put_line_rows` meets its contract. The loop's invariant: the rows so far are put; the measure is the rows to come.
+-- Assumes nothing.
+use mathlib.Core.List.{List}
+use mathlib.Core.Path.{_≡_, refl, sym, _∙_, ap}
+use Prim.Native.Nat.{ℕ, _+_, _-_, _*_, _≤_}
+use native.Mathlib.Numerals.{add-one}
+use native.Mathlib.Omega.{arith}
+use denote.Ref.{now}
+use lib.ListN.{length, getD}
+use Rattle.sets.specs.Set.{isMember}
+use Rattle.model.proofs.Places.{line-kind}
+use Rattle.text.specs.Text.{Puts}
+use Rattle.text.proofs.Digits.{puts-nothing, puts-then, puts-length}
+use Rattle.bench_page.specs.Page.{lineRow, rowsOf}
+use Rattle.bench_page.proofs.Rows.{line-row-length, rows-same}
+use borrow.Author.Needs.{needs}
+use Rattle.bench_page.proofs.put_line_rows.Statement.{statement}
+use Rattle.bench_page.proofs.put_line_rows.Tie as tie
+
+-- the row of line i, with its kind as the file has it
+abbrev rowAt : List ℕ → ℕ → ℕ → ℕ → List ℕ
+rowAt file kinds-at good i = lineRow i (getD file (kinds-at + i) 0) (isMember good i)
+
+record Rowing (file : List ℕ) (good : ℕ) (out₀ : List ℕ) (at kinds-at n : ℕ) (out : List ℕ) (next i : ℕ) : Type 0 where
+  few : i ≤ n
+  long : length out ≡ length out₀
+  place : next ≡ at + 41 * i
+  put : Puts at (rowsOf i (rowAt file kinds-at good)) out₀ out next
+
+abbrev Inv-loop : tie.InvT-loop
+Inv-loop file good out₀ at kinds-at n next₀ i₀ out next i = Rowing file good out₀ at kinds-at n out next i
+
+abbrev μ-loop : tie.MeasureT-loop
+μ-loop file good out₀ at kinds-at n next₀ i₀ out next i = n - i
+
+kinds-at-requires : tie.Need-kinds-at-requires Inv-loop μ-loop
+kinds-at-requires c κs = search needs
+
+loop-holds : tie.Need-loop-holds Inv-loop μ-loop
+unfolding rowsOf
+loop-holds c = record { few = search needs; long = refl; place = omega arith; put = puts-nothing _ _ }
+
+add-put-line-row : tie.Need-add-put-line-row Inv-loop μ-loop
+add-put-line-row c = search needs
+
+shared-slice-read-put-line-row : tie.Need-shared-slice-read-put-line-row Inv-loop μ-loop
+shared-slice-read-put-line-row c = search needs
+
+member-requires : tie.Need-member-requires Inv-loop μ-loop
+member-requires c κs = search needs
+
+put-line-row-requires : tie.Need-put-line-row-requires Inv-loop μ-loop
+put-line-row-requires c κs =
+    let start = c .before .before .before .before .before .before .before .before in
+    let few : start .args .m .lines ≤ 64 = start .pre .0 .few-lines in
+    let l = c .before .before .before .before .loop in
+    (omega arith, omega (arith, start .pre .1))
+
+add-i : tie.Need-add-i Inv-loop μ-loop
+add-i c = search needs
+
+loop-less : tie.Need-loop-less Inv-loop μ-loop
+loop-less c = search needs
+
+loop-again : tie.Need-loop-again Inv-loop μ-loop
+unfolding rowsOf
+loop-again c =
+    let row = c .before .before in
+    let told = row .before in
+    let l = told .before .before .before .before .loop in
+    let start = told .before .before .before .before .before .before .before .before in
+    let few : start .args .m .lines ≤ 64 = start .pre .0 .few-lines in
+    let kind = getD (now (start .args .file)) (told .before .before .before .before .before .kinds-at .result + l .i) 0 in
+    let size = line-row-length (l .i) kind (told .member .result) (omega arith) in
+    record {
+      few = search needs;
+      long = puts-length (omega (arith, start .pre .1)) (row .put-line-row .ensures) ∙ l .inv .long;
+      place = omega (arith, row .put-line-row .ensures .end);
+      put = rw add-one (puts-then (omega arith) (l .inv .put) (rw (told .member .ensures) at (row .put-line-row .ensures)));
+    }
+
+same-length : tie.Need-same-length Inv-loop μ-loop
+same-length c = search needs
+
+returns : tie.Need-returns Inv-loop μ-loop
+returns c =
+    let start = c .before .before .before .before .before in
+    let l = c .before .loop in
+    let m = start .args .m in
+    let file = now (start .args .file) in
+    let all : l .i ≡ m .lines = omega arith in
+    let place = c .before .before .kinds-at .ensures in
+    let same = rows-same (m .lines) _ _ (λ i h. ap (λ (k : ℕ). lineRow i k (isMember (start .args .good) i)) (ap (λ (a : ℕ). getD file (a + i) 0) place ∙ sym (line-kind (m .lines) (m .levels) file i h))) in
+    rw (sym same) (rw all at (l .inv .put))
+
+pub put-line-rows-spec : {M : Type 1} → statement M
+put-line-rows-spec =
+    tie.close
+    (tie.spec
+    Inv-loop
+    μ-loop
+    kinds-at-requires
+    loop-holds
+    add-put-line-row
+    shared-slice-read-put-line-row
+    member-requires
+    put-line-row-requires
+    add-i
+    loop-less
+    loop-again
+    same-length
+    returns)

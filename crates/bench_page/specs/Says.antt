@@ -1,0 +1,46 @@
+-- Making the bench page: what it turns down, in request W1's order, what it answers, and what it leaves in the lent buffer.
+-- Assumes nothing.
+use mathlib.Core.List.{List, [], _∷_, _++_}
+use mathlib.Core.Path.{_≡_}
+use Prim.Native.Nat.{ℕ}
+use lib.Dec.{ltb}
+use lib.ListN.{length}
+use Rattle.answers.specs.Answer.{Answer, refusal, numberOf}
+use Rattle.answers.specs.Check.{Check, _if_, firstOf, unless}
+use Rattle.sets.specs.Set.{full}
+use Rattle.model.specs.File.{linesIn, decode}
+use Rattle.model.specs.Says.{made, filled}
+use Rattle.admission.specs.Checks.{boundChecks}
+use Rattle.solver.specs.Says.{builtAnswer}
+use Rattle.bench_page.specs.Page.{page}
+use Rattle.bench_page.specs.declared.Paged.{Paged}
+use Rattle.bench_page.specs.declared.Paged.the-variants as paged
+
+-- the page of a file: it shows the set of judging by built-in trees, from no line to all lines
+unfoldable pub pageOf : List ℕ → List ℕ
+pageOf file = page (decode file) (builtAnswer file 0 (full (linesIn file)) .set)
+
+-- the checks of judging by built-in trees, then 12: a buffer shorter than the page
+abbrev pub pageChecks : List ℕ → ℕ → List Check
+pageChecks file room = boundChecks file 0 (full (linesIn file)) ++ (12 if ltb room (length (pageOf file)) ∷ [])
+
+-- the number with which making the page in a buffer of this length refuses, or 0
+unfoldable pub pageNumber : List ℕ → ℕ → ℕ
+pageNumber file room = firstOf (pageChecks file room)
+
+-- the paper's answer of each case of the enum
+abbrev pub pagedAnswer : Paged → Answer
+pagedAnswer (paged.Length bytes) = made bytes
+pagedAnswer (paged.Refused e) = refusal (numberOf e)
+
+-- making the page of a file in a buffer of `room` bytes
+abbrev pub pageAnswer : List ℕ → ℕ → Answer
+pageAnswer file room = unless (pageNumber file room) (made (length (pageOf file)))
+
+-- what it leaves in the buffer
+abbrev pub PageLeaves : List ℕ → List ℕ → List ℕ → Type 0
+PageLeaves file buffer buffer′ = buffer′ ≡ filled (pageNumber file (length buffer)) (pageOf file) buffer
+
+pub record PageSays (file buffer : List ℕ) (r : Paged) (buffer′ : List ℕ) : Type 0 where
+  pub answer : pagedAnswer r ≡ pageAnswer file (length buffer)
+  pub left : PageLeaves file buffer buffer′

@@ -1,0 +1,43 @@
+//! What the tests lend to operations, and which answers came up.
+
+use std::collections::BTreeMap;
+use std::fmt::Debug;
+
+use crate::Answer;
+
+/// A slice lent to an operation, with entries before and behind it that are none of the operation's business.
+#[derive(Clone, Debug, PartialEq)]
+pub struct Lent<T> {
+    entries: Vec<T>,
+}
+
+impl<T: Copy + Debug + PartialEq> Lent<T> {
+    const MARGIN: usize = 9;
+
+    /// A lent slice of this length; `fill` gives so many entries.
+    pub fn new(length: usize, mut fill: impl FnMut(usize) -> Vec<T>) -> Lent<T> {
+        Lent { entries: fill(length + 2 * Self::MARGIN) }
+    }
+
+    pub fn slice(&mut self) -> &mut [T] {
+        let end = self.entries.len() - Self::MARGIN;
+        &mut self.entries[Self::MARGIN..end]
+    }
+}
+
+/// How often each number was answered.
+#[derive(Default)]
+pub struct Seen(BTreeMap<u64, usize>);
+
+impl Seen {
+    pub fn note(&mut self, answer: Answer) {
+        *self.0.entry(answer.number).or_default() += 1;
+    }
+
+    pub fn assert_each(&self, numbers: &[u64], least: usize) {
+        for number in numbers {
+            let times = self.0.get(number).copied().unwrap_or(0);
+            assert!(times >= least, "number {number} came up {times} times only");
+        }
+    }
+}

@@ -1,0 +1,37 @@
+//! The share, and the bench page laid out by Rust's own formatting. The good lines are those that win the game.
+
+use super::game::winning_lines;
+use super::model::{set_of, Model};
+use crate::random::full;
+use crate::Answer;
+
+/// 1000 × good lines / n, a half upwards.
+pub fn share(good: usize, n: usize) -> u64 {
+    (1000.0 * good as f64 / n as f64 + 0.5).floor() as u64
+}
+
+/// The page of a model between empty and full.
+pub fn page_text(model: &Model) -> String {
+    let (n, d) = (model.lines(), model.levels());
+    let good = winning_lines(model, &set_of(0, n), &set_of(full(n), n));
+    let share = share(good.iter().filter(|&&wins| wins).count(), n);
+    let mut rows = vec![format!("lines {n:>2} levels {d:>1} share {share:>4}")];
+    for i in 0..n {
+        let kind = if model.all[i] { "all" } else { "any" };
+        let sign = if good[i] { '+' } else { '-' };
+        rows.push(format!("{i:>2} {kind} {sign}"));
+    }
+    rows.iter().map(|row| format!("{row:<40}\n")).collect()
+}
+
+pub fn page(file: &[u8], buffer: &mut [u8]) -> Answer {
+    let text = match Model::from_file(file) {
+        Ok(model) => page_text(&model),
+        Err(number) => return Answer::refused(number),
+    };
+    if buffer.len() < text.len() {
+        return Answer::refused(12);
+    }
+    buffer[..text.len()].copy_from_slice(text.as_bytes());
+    Answer { length: text.len() as u64, ..Answer::default() }
+}

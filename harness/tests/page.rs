@@ -1,0 +1,134 @@
+//! The bench page against the reference, which lays it out with Rust's own formatting: answers, and every byte of the buffer.
+
+use harness::lent::{Lent, Seen};
+use harness::random::{self, full, Random};
+use harness::{ffi, reference, Answer};
+
+/// Makes the page in a buffer of this length, by the engine and by the reference, and compares all they leave.
+fn page_both(random: &mut Random, file: &[u8], length: usize) -> Answer {
+    let mut buffer = Lent::new(length, |count| random.bytes(count));
+    let mut expected = buffer.clone();
+    let answer = ffi::page(file, buffer.slice());
+    assert_eq!(answer, reference::page(file, expected.slice()), "{length} {file:?}");
+    assert_eq!(buffer, expected, "{length} {file:?}");
+    answer
+}
+
+fn page_length(n: usize) -> usize {
+    41 * (n + 1)
+}
+
+fn model_file(name: &str) -> Vec<u8> {
+    std::fs::read(format!("{}/../models/{name}", env!("CARGO_MANIFEST_DIR"))).expect("it is there")
+}
+
+/// The page of a file that is not refused.
+fn page_of(file: &[u8]) -> String {
+    let mut buffer = vec![0; page_length(64)];
+    let answer = ffi::page(file, &mut buffer);
+    assert_eq!(answer.number, 0);
+    buffer.truncate(answer.length as usize);
+    String::from_utf8(buffer).expect("it is ASCII")
+}
+
+#[test]
+fn the_pages_of_p_and_q() {
+    assert_eq!(
+        page_of(&model_file("p.model")),
+        "lines  2 levels 2 share 1000            \n \
+         0 all +                                \n \
+         1 any +                                \n"
+    );
+    assert_eq!(
+        page_of(&model_file("q.model")),
+        "lines  2 levels 2 share    0            \n \
+         0 all -                                \n \
+         1 any -                                \n"
+    );
+}
+
+#[test]
+fn every_size_has_its_page() {
+    let mut random = Random::new(901);
+    for n in 1..=64 {
+        for d in 1..=8 {
+            let file = random::any_model(&mut random, n, d).file();
+            for extra in [0, random.between(1, 3000)] {
+                let answer = page_both(&mut random, &file, page_length(n) + extra);
+                assert_eq!(answer, Answer { length: page_length(n) as u64, ..Answer::default() });
+            }
+        }
+    }
+}
+
+#[test]
+fn every_buffer_length_around_the_page() {
+    let mut random = Random::new(902);
+    for n in 1..=64 {
+        let file = random::any_model(&mut random, n, 2).file();
+        let length = page_length(n);
+        for room in length.saturating_sub(90)..length + 45 {
+            let answer = page_both(&mut random, &file, room);
+            assert_eq!(answer.number, if room < length { 12 } else { 0 });
+        }
+    }
+    for room in 0..=2 * page_length(2) {
+        page_both(&mut random, &model_file("p.model"), room);
+    }
+}
+
+#[test]
+fn a_refused_file_has_its_number_in_every_buffer() {
+    let mut random = Random::new(903);
+    for _ in 0..100 {
+        for number in 1..=8 {
+            let (n, d) = (random.between(1, 63), random.between(1, 8));
+            let mut file = random::any_model(&mut random, n, d).file();
+            random::damage_file(&mut random, &mut file, n, d, number);
+            for room in [0, random.between(1, page_length(n)), page_length(64)] {
+                assert_eq!(page_both(&mut random, &file, room).number, number, "{file:?}");
+            }
+        }
+    }
+}
+
+#[test]
+fn the_first_of_several_refusals_answers() {
+    let mut random = Random::new(904);
+    let mut seen = Seen::default();
+    for _ in 0..5_000 {
+        let (n, d) = (random.between(1, 64), random.between(1, 3));
+        let file = random::troubled_case(&mut random, n, d).file;
+        let room = random.between(0, 2 * page_length(n));
+        seen.note(page_both(&mut random, &file, room));
+    }
+    seen.assert_each(&[0, 1, 2, 3, 4, 5, 6, 7, 8, 12], 100);
+}
+
+#[test]
+fn the_largest_models_have_their_page() {
+    let mut random = Random::new(905);
+    for _ in 0..4 {
+        let file = random::hard_model(&mut random, 64, 4).file();
+        assert_eq!(page_both(&mut random, &file, page_length(64)).length, 2665);
+    }
+    let largest = model_file("largest.model");
+    assert_eq!(page_both(&mut random, &largest, 2665).length, 2665);
+    assert_eq!(page_both(&mut random, &largest, 2664).number, 12);
+}
+
+#[test]
+fn the_page_marks_the_lines_that_judging_finds() {
+    let mut random = Random::new(906);
+    let mut mixed = 0;
+    for _ in 0..300 {
+        let (n, d) = (random.between(1, 64), random.between(1, 4));
+        let file = random::any_model(&mut random, n, d).file();
+        let page = page_of(&file);
+        let marks = page.lines().skip(1).map(|row| row.as_bytes()[7]);
+        let set = marks.enumerate().filter(|&(_, mark)| mark == b'+').map(|(i, _)| 1 << i).sum::<u64>();
+        assert_eq!(set, ffi::built(&file, 0, full(n)).set, "{page}");
+        mixed += (set != 0 && set != full(n)) as usize;
+    }
+    assert!(mixed > 100, "{mixed} pages have lines of both marks");
+}
