@@ -5,8 +5,10 @@ ghost use Rattle.trees.specs.Count.{countedAnswer};
 ghost use Rattle.model.specs.Says.{readingAnswer};
 ghost use Rattle.writer.specs.Says.{writtenAnswer};
 ghost use Rattle.solver.specs.Says.{queriedAnswer, judgedAnswer};
+ghost use Rattle.bench_page.specs.Says.{pagedAnswer};
 ghost use Rattle.answer_c.specs.Words.{sixWords};
 use answers::Refusal;
+use bench_page::Paged;
 use model::Reading;
 use solver::Judged;
 use solver::Queried;
@@ -52,6 +54,18 @@ pub fn put_written(answer: &mut [u64; 6], r: Written)
             *answer = [0, 0, 0, made, 0, 0];
         }
         Written::Refused(e) => put_refused(answer, e),
+    }
+}
+
+pub fn put_paged(answer: &mut [u64; 6], r: Paged)
+    ensures { λ _. ⌜ now (answer .exit) ≡ sixWords (pagedAnswer r) ⌝ }
+{
+    match r {
+        Paged::Length(bytes) => {
+            let length = bytes as u64;
+            *answer = [0, 0, 0, length, 0, 0];
+        }
+        Paged::Refused(e) => put_refused(answer, e),
     }
 }
 

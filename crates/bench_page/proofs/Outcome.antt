@@ -34,7 +34,7 @@ use Rattle.bench_page.proofs.Pages.{shown-below, file-page-length, page
 -- the set that judging found is the one that the page shows; all is the mask of all lines
 module _ (file : List ℕ) {all set count : ℕ} (mask : all ≡ full (linesIn file)) (says : BuiltSays file 0 all (judgement.Found set count)) where
   shown : set ≡ builtAnswer file 0 (full (linesIn file)) .set
-  shown = ap (λ (x : Answer). x .set) (rw mask at says .answer)
+  shown = ap (λ (x : Answer). x .set) ((rw mask at says) .answer)
 
   pub found-below : {m : Model} → Checked file m → set < 2 ^ m .lines
   found-below known = rw (known .counts .lines, shown) (shown-below file (known .counts .number))
@@ -58,7 +58,7 @@ module _ (file buffer : List ℕ) where
     pub judging-refused : {e : Refusal} → BuiltSays file 0 all (judgement.Refused e) → PageSays file buffer (paged.Refused e) buffer
     unfolding pageNumber boundNumber
     judging-refused {e} says =
-        let number = sym (ap (λ (x : Answer). x .number) (rw mask at says .answer) ∙ unless-number (boundNumber file 0 (full (linesIn file))) _ refl) in
+        let number = sym (ap (λ (x : Answer). x .number) ((rw mask at says) .answer) ∙ unless-number (boundNumber file 0 (full (linesIn file))) _ refl) in
         page-refused (refused-before (boundChecks file 0 (full (linesIn file))) lastCheck (refused-by e number))
 
     module _ {m : Model} (known : Checked file m) where
@@ -72,7 +72,7 @@ module _ (file buffer : List ℕ) where
           → Puts 0 (page (systemIn file m) set) buffer buffer′ bytes → PageSays file buffer (paged.Length bytes) buffer′
       unfolding pageOf
       page-made {bytes = bytes} {buffer′ = buffer′} says enough put =
-          let none : pageNumber file room ≡ 0 = page-number file room (omega (arith, known .counts .lines)) ∙ known .counts .number in
+          let none : pageNumber file room ≡ 0 = page-number file room (λ _. omega (arith, known .counts .lines)) ∙ known .counts .number in
           let whole : Puts 0 (pageOf file) buffer buffer′ bytes = subst (λ (t : List ℕ). Puts 0 t buffer buffer′ bytes) (ap₂ page (known .system) (shown file mask says)) put in
           record {
             answer = rw none (ap made (whole .end ∙ zero-add (length (pageOf file))));

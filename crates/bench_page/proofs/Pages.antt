@@ -68,13 +68,17 @@ module _ (file : List ℕ) (accepted-file : fileNumber file ≡ 0) where
       let header = accepted file accepted-file .header in
       page-length (decode file) (builtAnswer file 0 (full (linesIn file)) .set) (header .lines-most) (header .levels-most) shown-below
 
+  -- so no page is longer than that of 64 lines
+  pub longest-page : 41 * (linesIn file + 1) ≤ 2665
+  longest-page = omega (arith, accepted file accepted-file .header .lines-most)
+
   -- and it shows the nested fixpoint from no line to all lines
   pub page-nested : pageOf file ≡ page (decode file) (nestedSet (decode file) 0 (full (linesIn file)))
   unfolding pageOf decode
   page-nested = rw judged-whole (ap (page (decode file)) (built-nested (decode file) 0 (full (linesIn file)) range (accepted file accepted-file .header .lines-least)))
 
--- where there is room for the page, its file alone is turned down
-pub page-number : (file : List ℕ) (room : ℕ) → 41 * (linesIn file + 1) ≤ room → pageNumber file room ≡ fileNumber file
+-- where there is room for the page of an accepted file, the file alone is turned down
+pub page-number : (file : List ℕ) (room : ℕ) → (fileNumber file ≡ 0 → 41 * (linesIn file + 1) ≤ room) → pageNumber file room ≡ fileNumber file
 unfolding pageNumber boundNumber
 page-number file room enough = at (fileNumber file) refl
   where
@@ -85,5 +89,5 @@ page-number file room enough = at (fileNumber file) refl
     last = 12 if ltb room (length (pageOf file)) ∷ []
 
     at : (e : ℕ) → fileNumber file ≡ e → firstOf (bounds ++ last) ≡ fileNumber file
-    at zero h = before-passes bounds last (le-ltb room (length (pageOf file)) (omega (arith, file-page-length file h)), tt) ∙ never-misplaced file
+    at zero h = before-passes bounds last (le-ltb room (length (pageOf file)) (omega (arith, file-page-length file h, enough h)), tt) ∙ never-misplaced file
     at (suc e) h = first-before bounds last (omega (arith, never-misplaced file)) ∙ never-misplaced file

@@ -1,5 +1,5 @@
 // Document 01's samples: the models and the table of the samples that are proved (specs/), and this program, which runs the others.
-// Its stored output is what document 01 says of them.
+// Its stored output is what document 01 says of them, and P's bench page.
 use answers::Refusal;
 use libc::STDOUT_FILENO;
 use model::Reading;
@@ -105,6 +105,13 @@ fn show_sizes() {
     show_reading(b"65 lines, 9 levels: ", checker::check(&file));
 }
 
+// The bench page of P, three rows.
+fn show_page() {
+    let mut page = [0u8; 123];
+    bench_page::make_page(&P, &mut page);
+    io::write_all(STDOUT_FILENO, &page);
+}
+
 fn main() {
     show_judged(b"P, ceiling 3: ", solver::solve_plain(&P, 0, 3, 3));
     show_judged(b"P, ceiling 2: ", solver::solve_plain(&P, 0, 3, 2));
@@ -126,4 +133,5 @@ fn main() {
     );
     show_judged(b"P, 1024 gaps: ", solver::solve_lent(&P, 0, 3, &gaps, &[]));
     show_number(b"share of 1 in 16: ", text::share(1, 16));
+    show_page();
 }

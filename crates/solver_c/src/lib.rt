@@ -6,9 +6,11 @@ ghost use Rattle.system.specs.System.{systemOf};
 ghost use Rattle.reader.specs.Says.{readAnswer, ReadLeaves};
 ghost use Rattle.writer.specs.Says.{writeAnswer, WriteLeaves};
 ghost use Rattle.solver.specs.Says.{queryAnswer, plainAnswer, builtAnswer, lentAnswer};
+ghost use Rattle.bench_page.specs.Says.{pageAnswer, PageLeaves};
 ghost use Rattle.answer_c.specs.Words.{sixWords};
 use answer_c::put_judged;
 use answer_c::put_leaves;
+use answer_c::put_paged;
 use answer_c::put_queried;
 use answer_c::put_reading;
 use answer_c::put_written;
@@ -76,6 +78,14 @@ pub extern "C" fn solver_lent(
     ensures { λ _. ⌜ now (answer .exit) ≡ sixWords (lentAnswer (now (file .entry)) a b (now (u .entry)) (now (v .entry))) ⌝ }
 {
     put_judged(answer, solver::solve_lent(file, a, b, u, v));
+}
+
+#[no_mangle]
+pub extern "C" fn solver_page(file: &[u8], buffer: &mut [u8], answer: &mut [u64; 6])
+    ensures { λ _. ⌜ now (answer .exit) ≡ sixWords (pageAnswer (now (file .entry)) (length (now (buffer .entry)))) ⌝ }
+    ensures { λ _. ⌜ PageLeaves (now (file .entry)) (now (buffer .entry)) (now (buffer .exit)) ⌝ }
+{
+    put_paged(answer, bench_page::make_page(file, buffer));
 }
 
 #[no_mangle]

@@ -25,8 +25,7 @@ levels₃ c = c .before .before .before .before .before .before .before .before 
 -- the place behind each number, and the room
 lines-end : (c : tie.After-put-right) → (c .put-right .result ≡ 8) × (41 ≤ length (c .put-right .last .0))
 lines-end c =
-    let start = start₁ c in
-    (
+    let start = start₁ c in (
       omega (arith, number-end 2 (start .args .m .lines) (omega arith) (omega (arith, start .pre)) (c .put-right .ensures), c .before .before .before .before .put .ensures .end),
       omega (arith, start .pre),
     )
@@ -34,8 +33,7 @@ lines-end c =
 levels-end : (c : tie.After-put-right2) → (c .put-right2 .result ≡ 17) × (41 ≤ length (c .put-right2 .last .0))
 levels-end c =
     let start = start₁ (lines₂ c) in
-    let before = lines-end (lines₂ c) in
-    (
+    let before = lines-end (lines₂ c) in (
       omega (arith, number-end 1 (start .args .m .levels) (omega arith) (omega (arith, start .pre)) (c .put-right2 .ensures), c .before .before .before .before .put2 .ensures .end),
       omega arith,
     )
@@ -43,8 +41,7 @@ levels-end c =
 share-end : (c : tie.After-put-right3) → (c .put-right3 .result ≡ 28) × (41 ≤ length (c .put-right3 .last .0))
 share-end c =
     let start = start₁ (lines₂ (levels₃ c)) in
-    let before = levels-end (levels₃ c) in
-    (
+    let before = levels-end (levels₃ c) in (
       omega (arith, number-end 4 (start .args .share) (omega arith) (omega (arith, start .pre)) (c .put-right3 .ensures), c .before .before .before .before .put3 .ensures .end),
       omega arith,
     )

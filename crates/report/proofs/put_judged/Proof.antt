@@ -14,6 +14,9 @@ put-found-requires c κs = search needs
 enum-known-j-2 : tie.Need-enum-known-j-2
 enum-known-j-2 c = search needs
 
+number-requires : tie.Need-number-requires
+number-requires c κs = search needs
+
 put-refused-requires : tie.Need-put-refused-requires
 put-refused-requires c κs = search needs
 
@@ -27,7 +30,9 @@ same-length-2 : tie.Need-same-length-2
 same-length-2 c = search needs
 
 returns-2 : tie.Need-returns-2
-returns-2 c = rw (c .before .before .before .before .before .j2 .given .1, refused-line _ 0 0) (c .before .before .put-refused .ensures)
+returns-2 c =
+    let number = c .before .before .before in
+    rw (number .before .before .before .j2 .given .1, refused-line _ 0 0) (rw (number .number .ensures) at (c .before .before .put-refused .ensures))
 
 pub put-judged-spec : {M : Type 1} → statement M
 put-judged-spec =
@@ -36,6 +41,7 @@ put-judged-spec =
     enum-known-j
     put-found-requires
     enum-known-j-2
+    number-requires
     put-refused-requires
     same-length
     returns

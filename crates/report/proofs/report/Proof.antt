@@ -43,6 +43,9 @@ enum-known-counts c = search needs
 enum-known-counts-2 : tie.Need-enum-known-counts-2
 enum-known-counts-2 c = search needs
 
+number-requires : tie.Need-number-requires
+number-requires c κs = search needs
+
 put-refused-requires : tie.Need-put-refused-requires
 put-refused-requires c κs = search needs
 
@@ -51,10 +54,11 @@ same-length c = search needs
 
 returns-2 : tie.Need-returns-2
 returns-2 c =
-    let told = c .before .before .before .before .before in
+    let number = c .before .before .before in
+    let told = number .before .before .before in
     let test = told .before .before .before in
     rw (le-ltb _ 128 (test .if1 .left), ← refused-text _ (refused _ (told .before .before .check .ensures) (told .counts2 .given .1)))
-    (c .before .before .put-refused .ensures)
+    (rw (number .number .ensures) at (c .before .before .put-refused .ensures))
 
 full-set-requires : tie.Need-full-set-requires
 full-set-requires c κs = search needs
@@ -116,6 +120,7 @@ report-spec =
     check-requires
     enum-known-counts
     enum-known-counts-2
+    number-requires
     put-refused-requires
     same-length
     returns-2

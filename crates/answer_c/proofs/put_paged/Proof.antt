@@ -1,0 +1,28 @@
+-- `answer_c::put_paged` meets its contract: the words of each case.
+-- Assumes nothing.
+use mathlib.Core.Path.{sym, ap, _∙_}
+use Rattle.bench_page.specs.declared.Paged.{Paged}
+use Rattle.bench_page.specs.Says.{pagedAnswer}
+use Rattle.answer_c.specs.Words.{sixWords}
+use borrow.Author.Needs.{needs}
+use Rattle.answer_c.proofs.put_paged.Statement.{statement}
+use Rattle.answer_c.proofs.put_paged.Tie as tie
+
+enum-known-r : tie.Need-enum-known-r
+enum-known-r c = search needs
+
+enum-known-r-2 : tie.Need-enum-known-r-2
+enum-known-r-2 c = search needs
+
+put-refused-requires : tie.Need-put-refused-requires
+put-refused-requires c κs = search needs
+
+returns : tie.Need-returns
+returns c = sym (ap (λ (r : Paged). sixWords (pagedAnswer r)) (c .before .before .r .given .1))
+
+returns-2 : tie.Need-returns-2
+returns-2 c = c .put-refused .ensures ∙ sym (ap (λ (r : Paged). sixWords (pagedAnswer r)) (c .before .before .before .r2 .given .1))
+
+pub put-paged-spec : {M : Type 1} → statement M
+put-paged-spec =
+    tie.close (tie.spec enum-known-r enum-known-r-2 put-refused-requires returns returns-2)

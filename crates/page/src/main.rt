@@ -1,0 +1,13 @@
+// The page program: reads a model's file from standard input and writes its bench page, or its refusal, to standard output.
+// Making the text is `page_report`'s, which is proved; here it is only read, called and written.
+use libc::STDIN_FILENO;
+use libc::STDOUT_FILENO;
+
+fn main() {
+    // The largest file has 4,184 bytes: one byte more is enough to tell that an input is too long.
+    let mut input = [0u8; 4185];
+    let got = io::read_full(STDIN_FILENO, &mut input);
+    let mut out = [0u8; page_report::REPORT_SIZE];
+    let made = page_report::report(&input[..got], &mut out);
+    io::write_all(STDOUT_FILENO, &out[..made]);
+}
