@@ -1,4 +1,4 @@
-/* Writes the file of a small model, reads it back, and judges it in each of the three ways.
+/* Writes the file of a small model, reads it back, judges it in each of the three ways, and makes its bench page.
  *
  *   rt staticlib solver_c
  *   cc -std=c99 -I include examples/judge_p.c target/staticlib/libsolver_c.a -o target/judge_p && target/judge_p
@@ -60,6 +60,12 @@ int main(void) {
     show_judged("by trees of one leaf", answer);
     solver_lent(file, length, 0, 3, two_leaves, 1, two_leaves, 0, answer);
     show_judged("by trees of two leaves and of one", answer);
+
+    /* The bench page of two lines: three rows of 41 bytes. */
+    uint8_t page[3 * 41];
+    solver_page(file, length, page, sizeof page, answer);
+    printf("page: %" PRIu64 " bytes\n", answer[LENGTH]);
+    fwrite(page, 1, answer[LENGTH], stdout);
 
     solver_leaf_count(8, 2, answer);
     printf("leaves for 8 lines, height 2: %" PRIu64 "\n", answer[COUNT]);

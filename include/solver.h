@@ -27,6 +27,10 @@ void solver_built(const uint8_t *file, size_t file_len, uint64_t a, uint64_t b, 
 void solver_lent(const uint8_t *file, size_t file_len, uint64_t a, uint64_t b, const uint8_t *u, size_t u_len, const uint8_t *v,
                  size_t v_len, uint64_t answer[6]);
 
+/* The bench page of the judgement by built-in trees from no line to all lines: for n lines n + 1 rows of 41 bytes; bytes after the page
+ * are kept. */
+void solver_page(const uint8_t *file, size_t file_len, uint8_t *buffer, size_t buffer_len, uint64_t answer[6]);
+
 /* The leaves of the built-in tree of height h for n lines. */
 void solver_leaf_count(size_t n, size_t h, uint64_t answer[6]);
 

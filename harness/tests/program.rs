@@ -1,5 +1,5 @@
-//! The judging program: its text against the reference's, for the sample models, random files, input in pieces and input that is
-//! too long; and `judge.sh` with a file that is not there.
+//! The judging program and the page program: their texts against the reference's, for the sample models, random files, input in pieces and
+//! input that is too long; and their scripts with a file that is not there.
 
 use harness::random::{self, full, Random};
 use harness::reference::game::winning_lines;
@@ -13,13 +13,13 @@ fn root(path: &str) -> String {
     format!("{}/../{path}", env!("CARGO_MANIFEST_DIR"))
 }
 
-/// What the program writes for an input that arrives in these pieces.
-fn judged(pieces: &[&[u8]], pause: Duration) -> String {
-    let mut program = Command::new(root("target/bin/judge"))
+/// What a program writes for an input that arrives in these pieces.
+fn written(name: &str, pieces: &[&[u8]], pause: Duration) -> String {
+    let mut program = Command::new(root(&format!("target/bin/{name}")))
         .stdin(Stdio::piped())
         .stdout(Stdio::piped())
         .spawn()
-        .expect("target/bin/judge is missing: run `rt check judge` first");
+        .unwrap_or_else(|_| panic!("target/bin/{name} is missing: run `rt check {name}` first"));
     let mut input = program.stdin.take().expect("it is piped");
     for piece in pieces {
         // A program that has read enough may have ended.
@@ -32,8 +32,12 @@ fn judged(pieces: &[&[u8]], pause: Duration) -> String {
     String::from_utf8(output.stdout).expect("it writes ASCII")
 }
 
-fn at_once(file: &[u8]) -> String {
-    judged(&[file], Duration::ZERO)
+fn judged(file: &[u8]) -> String {
+    written("judge", &[file], Duration::ZERO)
+}
+
+fn paged(file: &[u8]) -> String {
+    written("page", &[file], Duration::ZERO)
 }
 
 fn line(word: &str, answer: Answer) -> String {
@@ -43,30 +47,43 @@ fn line(word: &str, answer: Answer) -> String {
     }
 }
 
-/// Document 01's text: the sets by the game, the plain count by rounds, the tree count by the leaves of linked nodes.
-fn expected(file: &[u8]) -> String {
+/// What both programs write of a file that is turned down.
+fn refused(number: u64) -> String {
+    format!("refused {number}\n")
+}
+
+/// The page program's text.
+fn expected_page(file: &[u8]) -> String {
+    match reference::Model::from_file(file) {
+        Ok(model) => reference::page_text(&model),
+        Err(number) => refused(number),
+    }
+}
+
+/// The judging program's text: the sets by the game, the plain count by rounds, the tree count by the leaves of linked nodes.
+fn expected_judgement(file: &[u8]) -> String {
     let model = match reference::Model::from_file(file) {
         Ok(model) => model,
-        Err(number) => return format!("refused {number}\n"),
+        Err(number) => return refused(number),
     };
     let n = model.lines();
     let set = winning_lines(&model, &set_of(0, n), &set_of(full(n), n));
     let leaves = |h| Tree::built_in(n, h).leaf_count();
     let tree = Answer::judged(word_of(&set), leaves(model.least_levels()) * leaves(model.greatest_levels()));
     let plain = reference::plain(file, 0, full(n), 1_000_000);
-    let good = set.iter().filter(|&&wins| wins).count() as f64;
-    let share = (1000.0 * good / n as f64 + 0.5).floor();
+    let share = reference::share(set.iter().filter(|&&wins| wins).count(), n);
     line("plain", plain) + &line("tree", tree) + &format!("share {share}\n")
 }
 
 #[test]
-fn every_sample_model_is_judged() {
+fn every_sample_model_is_judged_and_has_its_page() {
     let mut seen = 0;
     for entry in std::fs::read_dir(root("models")).expect("models/ is there") {
         let path = entry.expect("it is read").path();
         if path.extension().is_some_and(|e| e == "model") {
             let file = std::fs::read(&path).expect("it is read");
-            assert_eq!(at_once(&file), expected(&file), "{}", path.display());
+            assert_eq!(judged(&file), expected_judgement(&file), "{}", path.display());
+            assert_eq!(paged(&file), expected_page(&file), "{}", path.display());
             seen += 1;
         }
     }
@@ -75,7 +92,7 @@ fn every_sample_model_is_judged() {
 
 #[test]
 fn the_sample_models_show_what_their_note_says() {
-    let text = |name: &str| at_once(&std::fs::read(root(name)).expect("it is there"));
+    let text = |name: &str| judged(&std::fs::read(root(name)).expect("it is there"));
     assert_eq!(text("models/p.model"), "plain 0000000000000003 3\ntree 0000000000000003 4\nshare 1000\n");
     assert_eq!(text("models/q.model"), "plain 0000000000000000 3\ntree 0000000000000000 4\nshare 0\n");
     assert_eq!(text("models/one-line.model"), "plain 0000000000000000 1\ntree 0000000000000000 1\nshare 0\n");
@@ -86,15 +103,16 @@ fn the_sample_models_show_what_their_note_says() {
 #[test]
 fn random_files_are_judged_or_refused() {
     let mut random = Random::new(801);
-    let (mut judged, mut refused) = (0, 0);
+    let (mut accepted, mut refused) = (0, 0);
     for _ in 0..600 {
         let (n, d) = (random.between(1, 64), random.between(1, 4));
         let file = random::troubled_case(&mut random, n, d).file;
-        let text = at_once(&file);
-        assert_eq!(text, expected(&file), "{file:?}");
-        *(if text.starts_with("refused") { &mut refused } else { &mut judged }) += 1;
+        let text = judged(&file);
+        assert_eq!(text, expected_judgement(&file), "{file:?}");
+        assert_eq!(paged(&file), expected_page(&file), "{file:?}");
+        *(if text.starts_with("refused") { &mut refused } else { &mut accepted }) += 1;
     }
-    assert!(judged > 50 && refused > 50, "{judged} judged, {refused} refused");
+    assert!(accepted > 50 && refused > 50, "{accepted} accepted, {refused} refused");
 }
 
 #[test]
@@ -102,7 +120,9 @@ fn input_in_pieces_is_one_input() {
     for name in ["models/p.model", "models/incident.model"] {
         let file = std::fs::read(root(name)).expect("it is there");
         let pieces: Vec<&[u8]> = file.chunks(7).collect();
-        assert_eq!(judged(&pieces, Duration::from_millis(3)), expected(&file));
+        let pause = Duration::from_millis(3);
+        assert_eq!(written("judge", &pieces, pause), expected_judgement(&file));
+        assert_eq!(written("page", &pieces, pause), expected_page(&file));
     }
 }
 
@@ -113,26 +133,33 @@ fn input_that_is_too_long_is_refused() {
     for more in [1, 2, 5_000, 200_000] {
         for file in [&largest, &small] {
             let long = [&file[..], &vec![0; more]].concat();
-            assert_eq!(at_once(&long), "refused 5\n", "{} bytes and {more} more", file.len());
+            for text in [judged(&long), paged(&long)] {
+                assert_eq!(text, "refused 5\n", "{} bytes and {more} more", file.len());
+            }
         }
     }
 }
 
 #[test]
 fn no_input_is_refused() {
-    assert_eq!(at_once(&[]), "refused 1\n");
+    assert_eq!(judged(&[]), "refused 1\n");
+    assert_eq!(paged(&[]), "refused 1\n");
 }
 
 #[test]
-fn the_script_judges_a_file_and_names_one_that_is_not_there() {
-    let run =
-        |path: &str| Command::new("bash").arg(root("judge.sh")).arg(path).output().expect("bash is there");
-    let found = run(&root("models/p.model"));
-    assert!(found.status.success());
-    assert_eq!(found.stdout, b"plain 0000000000000003 3\ntree 0000000000000003 4\nshare 1000\n");
-    for path in ["models/none.model", "", "models"] {
-        let missing = run(path);
-        assert_eq!(missing.status.code(), Some(2), "{path:?}");
-        assert!(missing.stdout.is_empty() && !missing.stderr.is_empty(), "{path:?}");
+fn each_script_runs_its_program_and_names_a_file_that_is_not_there() {
+    let p = std::fs::read(root("models/p.model")).expect("it is there");
+    for (script, text) in [("judge.sh", expected_judgement(&p)), ("page.sh", expected_page(&p))] {
+        let run =
+            |path: &str| Command::new("bash").arg(root(script)).arg(path).output().expect("bash is there");
+        let found = run(&root("models/p.model"));
+        assert!(found.status.success());
+        assert_eq!(String::from_utf8_lossy(&found.stdout), text);
+        for path in ["models/none.model", "", "models"] {
+            let missing = run(path);
+            assert_eq!(missing.status.code(), Some(2), "{script} {path:?}");
+            assert!(missing.stdout.is_empty(), "{script} {path:?}");
+            assert!(String::from_utf8_lossy(&missing.stderr).starts_with(script), "{script} {path:?}");
+        }
     }
 }

@@ -1,4 +1,4 @@
--- The samples that document 01 marks † as one table: what the definitions give beside what the paper says.
+-- The samples that document 01 marks † as one table, and P's bench page: what the definitions give beside what the papers say.
 -- Assumes nothing.
 use mathlib.Core.List.{List, [], _∷_}
 use mathlib.Core.Path.{_≡_}
@@ -6,6 +6,7 @@ use Prim.Native.Nat.{ℕ}
 use Rattle.trees.specs.Built.{built, leafCount}
 use Rattle.system.specs.System.{System}
 use Rattle.routes.specs.Routes.{builtLeast, builtGreatest, nestedSet, plainRun, restrictedSet, restrictedCount}
+use Rattle.bench_page.specs.Page.{page}
 use Rattle.samples.specs.Models.{P, Q, one}
 
 -- what the definitions give, and what document 01 says
@@ -28,6 +29,13 @@ over m a b u v = restrictedSet m a b u v ∷ restrictedCount m u v ∷ []
 abbrev pub overBuilt : System → ℕ → ℕ → List ℕ
 overBuilt m a b = over m a b (builtLeast m (m .lines)) (builtGreatest m (m .lines))
 
+-- P's bench page as it is taped, in ASCII: `lines  2 levels 2 share 1000`, ` 0 all +` and ` 1 any +`, each with blanks up to 40 characters and a newline
+abbrev pub pageOfP : List ℕ
+pageOfP =
+    108 ∷ 105 ∷ 110 ∷ 101 ∷ 115 ∷ 32 ∷ 32 ∷ 50 ∷ 32 ∷ 108 ∷ 101 ∷ 118 ∷ 101 ∷ 108 ∷ 115 ∷ 32 ∷ 50 ∷ 32 ∷ 115 ∷ 104 ∷ 97 ∷ 114 ∷ 101 ∷ 32 ∷ 49 ∷ 48 ∷ 48 ∷ 48 ∷ 32 ∷ 32 ∷ 32 ∷ 32 ∷ 32 ∷ 32 ∷ 32 ∷ 32 ∷ 32 ∷ 32 ∷ 32 ∷ 32 ∷ 10 ∷
+    32 ∷ 48 ∷ 32 ∷ 97 ∷ 108 ∷ 108 ∷ 32 ∷ 43 ∷ 32 ∷ 32 ∷ 32 ∷ 32 ∷ 32 ∷ 32 ∷ 32 ∷ 32 ∷ 32 ∷ 32 ∷ 32 ∷ 32 ∷ 32 ∷ 32 ∷ 32 ∷ 32 ∷ 32 ∷ 32 ∷ 32 ∷ 32 ∷ 32 ∷ 32 ∷ 32 ∷ 32 ∷ 32 ∷ 32 ∷ 32 ∷ 32 ∷ 32 ∷ 32 ∷ 32 ∷ 32 ∷ 10 ∷
+    32 ∷ 49 ∷ 32 ∷ 97 ∷ 110 ∷ 121 ∷ 32 ∷ 43 ∷ 32 ∷ 32 ∷ 32 ∷ 32 ∷ 32 ∷ 32 ∷ 32 ∷ 32 ∷ 32 ∷ 32 ∷ 32 ∷ 32 ∷ 32 ∷ 32 ∷ 32 ∷ 32 ∷ 32 ∷ 32 ∷ 32 ∷ 32 ∷ 32 ∷ 32 ∷ 32 ∷ 32 ∷ 32 ∷ 32 ∷ 32 ∷ 32 ∷ 32 ∷ 32 ∷ 32 ∷ 32 ∷ 10 ∷ []
+
 unfoldable pub table : List Row
 table =
     row (plainly Q 0 3) (0 ∷ 0 ∷ 3 ∷ []) ∷
@@ -44,6 +52,8 @@ table =
     -- the output that document 01 gives for P
     row (plainly P 0 3) (3 ∷ 3 ∷ 3 ∷ []) ∷
     row (overBuilt P 0 3) (3 ∷ 4 ∷ []) ∷
+    -- its page (request W1)
+    row (page P (nestedSet P 0 3)) pageOfP ∷
     []
 
 -- every row of a table holds
