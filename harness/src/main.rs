@@ -7,6 +7,7 @@ use std::hint::black_box;
 use std::process::{Command, Stdio};
 use std::time::Instant;
 
+use harness::baseline::page::page;
 use harness::baseline::{by_levels, whole};
 use harness::random::{self, full, Density, Random};
 use harness::reference::{Model, Tree};
@@ -309,6 +310,42 @@ fn row(
     Some(seconds[0])
 }
 
+// ---- the page ----
+
+/// The bench page by the engine and by Rust with the engine's own algorithm, beside the engine's judging of the same models.
+fn print_pages(effort: Effort) {
+    println!("\nthe bench page, sparse: by the engine, by Rust (levels), and the engine's judging alone; the medians of the page's time / each");
+    println!(
+        "{:>5} {:>6} {:>8} {:>8} {:>8} {:>7} {:>7}",
+        "lines", "levels", "engine", "levels", "judging", "levels", "judging"
+    );
+    for (lines, levels) in [(16, 2), (64, 1), (64, 2), (64, 4)] {
+        let models: Vec<Subject> =
+            (1..=effort.models).map(|seed| Subject::sparse(seed, lines, levels)).collect();
+        let made = |make: fn(&[u8], &mut [u8]) -> Answer, model: &Subject| {
+            let mut buffer = [0; 2665];
+            let answer = make(black_box(&model.file), &mut buffer);
+            black_box(buffer);
+            answer
+        };
+        for model in &models {
+            assert_eq!(made(ffi::page, model), made(page, model), "the engine and Rust make other pages");
+        }
+        let times = measure(
+            effort,
+            &models,
+            &[&|model| made(ffi::page, model), &|model| made(page, model), &|model| {
+                model.judged(Judge::Engine, Route::Built)
+            }],
+        );
+        print!("{lines:5} {levels:6}");
+        for seconds in times.seconds {
+            print!(" {:>8}", time(seconds));
+        }
+        println!(" {:7.3} {:7.3}", times.ratios[1], times.ratios[2]);
+    }
+}
+
 // ---- the stack of the deepest runs ----
 
 /// The trees with the most calls within calls.
@@ -435,6 +472,7 @@ fn benchmark(effort: Effort) {
         }
     }
 
+    print_pages(effort);
     print_stacks();
 }
 

@@ -1,5 +1,6 @@
 //! The benchmark's Rust implementations against the reference, so that the benchmark compares equal work.
 
+use harness::baseline::page::page;
 use harness::baseline::{by_levels, whole};
 use harness::random::{self, Random};
 use harness::reference;
@@ -36,5 +37,19 @@ fn the_baselines_judge_as_the_reference_does() {
     }
     for (number, &times) in seen.iter().enumerate() {
         assert!(times >= 50, "number {number} came up {times} times only");
+    }
+}
+
+#[test]
+fn the_baseline_makes_pages_as_the_reference_does() {
+    let mut random = Random::new(902);
+    for _ in 0..2000 {
+        let (n, d) = (random.between(1, 64), random.between(1, 3));
+        let file = random::troubled_case(&mut random, n, d).file;
+        let room = random.between(0, 100 * n);
+        let mut made = random.bytes(room);
+        let mut expected = made.clone();
+        assert_eq!(page(&file, &mut made), reference::page(&file, &mut expected), "{room} {file:?}");
+        assert_eq!(made, expected, "{file:?}");
     }
 }

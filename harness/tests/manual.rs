@@ -1,5 +1,5 @@
 //! What the manual shows: the example in C, compiled against the static library and run, prints what stands beside it, and the manual has both
-//! as they are; its rows of model P's bytes are the sample model.
+//! as they are; its rows of model P's bytes are the sample model, and its page is the one that the page program prints.
 
 use std::fs;
 use std::path::Path;
@@ -61,4 +61,13 @@ fn the_manual_shows_the_bytes_of_model_p() {
         );
     }
     assert_eq!(bytes, fs::read(root("models/p.model")).expect("it is there"));
+}
+
+#[test]
+fn the_manual_shows_the_page_of_model_p() {
+    let page = Command::new("bash").args([root("page.sh"), root("models/p.model")]).output().expect("it ran");
+    assert!(page.status.success());
+    let page = String::from_utf8(page.stdout).expect("it is ASCII");
+    assert_eq!(page.lines().map(str::len).collect::<Vec<_>>(), [40; 3]);
+    assert!(text("docs/MANUAL.md").contains(&format!("```\n{page}```\n")));
 }

@@ -49,7 +49,7 @@ fn the_pages_of_p_and_q() {
 
 #[test]
 fn every_size_has_its_page() {
-    let mut random = Random::new(901);
+    let mut random = Random::new(1001);
     for n in 1..=64 {
         for d in 1..=8 {
             let file = random::any_model(&mut random, n, d).file();
@@ -63,7 +63,7 @@ fn every_size_has_its_page() {
 
 #[test]
 fn every_buffer_length_around_the_page() {
-    let mut random = Random::new(902);
+    let mut random = Random::new(1002);
     for n in 1..=64 {
         let file = random::any_model(&mut random, n, 2).file();
         let length = page_length(n);
@@ -79,7 +79,7 @@ fn every_buffer_length_around_the_page() {
 
 #[test]
 fn a_refused_file_has_its_number_in_every_buffer() {
-    let mut random = Random::new(903);
+    let mut random = Random::new(1003);
     for _ in 0..100 {
         for number in 1..=8 {
             let (n, d) = (random.between(1, 63), random.between(1, 8));
@@ -94,7 +94,7 @@ fn a_refused_file_has_its_number_in_every_buffer() {
 
 #[test]
 fn the_first_of_several_refusals_answers() {
-    let mut random = Random::new(904);
+    let mut random = Random::new(1004);
     let mut seen = Seen::default();
     for _ in 0..5_000 {
         let (n, d) = (random.between(1, 64), random.between(1, 3));
@@ -107,7 +107,7 @@ fn the_first_of_several_refusals_answers() {
 
 #[test]
 fn the_largest_models_have_their_page() {
-    let mut random = Random::new(905);
+    let mut random = Random::new(1005);
     for _ in 0..4 {
         let file = random::hard_model(&mut random, 64, 4).file();
         assert_eq!(page_both(&mut random, &file, page_length(64)).length, 2665);
@@ -119,7 +119,7 @@ fn the_largest_models_have_their_page() {
 
 #[test]
 fn the_page_marks_the_lines_that_judging_finds() {
-    let mut random = Random::new(906);
+    let mut random = Random::new(1006);
     let mut mixed = 0;
     for _ in 0..300 {
         let (n, d) = (random.between(1, 64), random.between(1, 4));

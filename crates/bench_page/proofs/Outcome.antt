@@ -9,24 +9,23 @@ use borrow.Author.Tests.{lt-ltb}
 use lib.Dec.{ltb}
 use lib.ListN.{length, drop}
 use Rattle.answers.specs.Answer.{Answer}
-use Rattle.answers.specs.Check.{Check, _if_, unless}
+use Rattle.answers.specs.Check.{Check, _if_}
 use Rattle.answers.specs.declared.Refusal.{Refusal}
 use Rattle.answers.specs.declared.Refusal.the-variants.{Room}
 use Rattle.sets.specs.Set.{full}
-use Rattle.system.specs.System.{System}
-use Rattle.model.specs.File.{linesIn, decode}
+use Rattle.model.specs.File.{linesIn}
 use Rattle.model.specs.Held.{systemIn}
-use Rattle.model.specs.Says.{made, filled}
+use Rattle.model.specs.Says.{made}
 use Rattle.model.specs.declared.layout.Model.{Model}
 use Rattle.model.proofs.Refusals.{RefusedAs, refused-by, refused-answer, refused-before, filled-refused, unless-number}
 use Rattle.checker.specs.Checks.{fileChecks, fileNumber}
 use Rattle.checker.proofs.Accepted.{Checked}
 use Rattle.admission.specs.Checks.{misplaced, boundChecks, boundNumber}
 use Rattle.admission.proofs.Admitted.{never-misplaced, after-bounds}
-use Rattle.solver.specs.Says.{judgedAnswer, builtAnswer, BuiltSays}
+use Rattle.solver.specs.Says.{builtAnswer, BuiltSays}
 use Rattle.solver.specs.declared.Judged.the-variants as judgement
 use Rattle.text.specs.Text.{Puts}
-use Rattle.bench_page.specs.Page.{page}
+use Rattle.page_layout.specs.Page.{page}
 use Rattle.bench_page.specs.Says.{pageOf, pageNumber, PageSays}
 use Rattle.bench_page.specs.declared.Paged.the-variants as paged
 use Rattle.bench_page.proofs.Pages.{shown-below, file-page-length, page-number}

@@ -1,5 +1,4 @@
--- The page of a system: its share has at most four places, and it is 41 bytes for each of its n + 1 rows. So the page of a file that is accepted has that
--- length, and it shows the nested fixpoint.
+-- The page of a file that is accepted: it has n + 1 rows of 41 bytes, and it shows the nested fixpoint. With room for it, only the file is turned down.
 -- Assumes nothing.
 use mathlib.Core.List.{List, [], _∷_, _++_}
 use mathlib.Core.Path.{_≡_, refl, _∙_, ap}
@@ -7,17 +6,15 @@ use Prim.Native.Nat.{ℕ, zero, suc, _+_, _*_, _^_, _≤_, _<_}
 use native.Mathlib.Omega.{arith}
 use borrow.Author.Tests.{le-ltb}
 use lib.Dec.{ltb}
-use lib.ListN.{length, getD, length-append}
+use lib.ListN.{length}
 use Rattle.answers.specs.Check.{Check, _if_, firstOf}
 use Rattle.answers.proofs.Checks.{first-before, before-passes}
-use Rattle.sets.specs.Set.{isMember, full, members}
-use Rattle.sets.proofs.Members.{members-full, members-most}
+use Rattle.sets.specs.Set.{full}
 use Rattle.sets.proofs.Order.{refl⊑, empty-least}
-use Rattle.sets.proofs.Range.{below-full, full-below}
+use Rattle.sets.proofs.Range.{full-below}
 use Rattle.fixpoint.specs.Lawful.{Range}
 use Rattle.fixpoint.specs.Sets.{sets}
 use Rattle.fixpoint.proofs.Sets.{sets-range}
-use Rattle.system.specs.System.{System}
 use Rattle.model.specs.File.{linesIn, decode}
 use Rattle.checker.specs.Checks.{fileNumber}
 use Rattle.checker.proofs.Accepted.{accepted}
@@ -27,24 +24,9 @@ use Rattle.routes.specs.Routes.{builtLeast, builtGreatest, nestedSet}
 use Rattle.routes.proofs.Promises.{built-nested, restricted-inside}
 use Rattle.solver.specs.Checks.{builtNumber}
 use Rattle.solver.specs.Says.{builtAnswer}
-use Rattle.text.specs.Text.{shareOf}
-use Rattle.text.proofs.Nearest.{share-most}
-use Rattle.bench_page.specs.Page.{firstRow, lineRow, rowsOf, page}
+use Rattle.page_layout.specs.Page.{page}
+use Rattle.page_layout.proofs.Pages.{page-length}
 use Rattle.bench_page.specs.Says.{pageOf, pageNumber}
-use Rattle.bench_page.proofs.Rows.{first-row-length, line-row-length, rows-length}
-
--- a set of n lines has at most n members
-pub share-few : (n good : ℕ) → good < 2 ^ n → shareOf (members good) n ≤ 1000
-share-few n good h = share-most (members good) n (omega (arith, members-most good (full n) (below-full n good h), members-full n))
-
-pub page-length : (m : System) (good : ℕ) → m .lines ≤ 64 → m .levels ≤ 8 → good < 2 ^ m .lines → length (page m good) ≡ 41 * (m .lines + 1)
-unfolding page
-page-length m good few-lines few-levels within =
-    let share = shareOf (members good) (m .lines) in
-    let rowAt : ℕ → List ℕ = λ i. lineRow i (getD (m .kinds) i 0) (isMember good i) in
-    let first = first-row-length (m .lines) (m .levels) share (omega arith) (omega arith) (omega (arith, share-few (m .lines) good within)) in
-    let rows = rows-length (m .lines) rowAt (λ i h. line-row-length i (getD (m .kinds) i 0) (isMember good i) (omega arith)) in
-    omega (arith, length-append (firstRow (m .lines) (m .levels) share) (rowsOf (m .lines) rowAt))
 
 module _ (file : List ℕ) (accepted-file : fileNumber file ≡ 0) where
   -- what is shown is judged

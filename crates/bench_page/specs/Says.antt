@@ -12,7 +12,7 @@ use Rattle.model.specs.File.{linesIn, decode}
 use Rattle.model.specs.Says.{made, filled}
 use Rattle.admission.specs.Checks.{boundChecks}
 use Rattle.solver.specs.Says.{builtAnswer}
-use Rattle.bench_page.specs.Page.{page}
+use Rattle.page_layout.specs.Page.{page}
 use Rattle.bench_page.specs.declared.Paged.{Paged}
 use Rattle.bench_page.specs.declared.Paged.the-variants as paged
 

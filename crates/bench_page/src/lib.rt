@@ -1,20 +1,8 @@
-// The bench page: a file's judgement as rows of text, in a lent buffer. Definitions: specs/.
-ghost use mathlib.Core.Path.{_≡_};
-ghost use mathlib.Core.List.{[], _∷_, _++_};
-ghost use Prim.Native.Nat.{_+_, _-_, _*_, _^_, _≤_, _<_};
-ghost use lib.ListN.{length, getD};
-ghost use Rattle.sets.specs.Set.{isMember};
-ghost use Rattle.model.specs.Held.{Held, systemIn};
-ghost use Rattle.text.specs.Text.{blanks, Puts};
-ghost use Rattle.bench_page.specs.Page.{kindWord, mark, firstRow, lineRow, rowsOf, page};
+// Making the bench page: a file's judgement as a page of text, in a lent buffer. Definitions: specs/.
 ghost use Rattle.bench_page.specs.Says.{PageSays};
 use answers::Refusal;
-use model::Model;
 use model::Reading;
 use solver::Judged;
-use text::put;
-use text::put_blanks;
-use text::put_right;
 
 // What making the page answers.
 pub enum Paged {
@@ -22,104 +10,11 @@ pub enum Paged {
     Refused(Refusal),
 }
 
-// A row's characters, without its newline.
-const ROW_PLACES: usize = 40;
-
 // A row with its newline.
 const ROW_LENGTH: usize = 41;
 
 // The page of 64 lines: no page is longer.
 pub const MAX_LENGTH: usize = 2665;
-
-// Blanks up to the end of the row that begins at `start`, and its newline.
-fn end_row(out: &mut [u8], start: usize, at: usize) -> usize
-    requires { ⌜ (start ≤ at) × (at ≤ start + 40) ⌝ }
-    requires { ⌜ start + 41 ≤ length (now out) ⌝ }
-    ensures { λ r. ⌜ Puts at (blanks (start + 40 - at) ++ (10 ∷ [])) (now (out .entry)) (now (out .exit)) r ⌝ }
-{
-    let end = put_blanks(out, at, start + ROW_PLACES - at);
-    put(out, end, b"\n")
-}
-
-// The row of the counts and the share, at the front.
-fn put_first_row(out: &mut [u8], m: Model, share: u64) -> usize
-    requires { ⌜ (m .lines ≤ 64) × (m .levels ≤ 8) ⌝ }
-    requires { ⌜ share ≤ 1000 ⌝ }
-    requires { ⌜ 41 ≤ length (now out) ⌝ }
-    ensures { λ r. ⌜ Puts 0 (firstRow (m .lines) (m .levels) share) (now (out .entry)) (now (out .exit)) r ⌝ }
-{
-    let n = put(out, 0, b"lines ");
-    let levels = put_right(out, n, 2, m.lines as u64);
-    let d = put(out, levels, b" levels ");
-    let word = put_right(out, d, 1, m.levels as u64);
-    let number = put(out, word, b" share ");
-    let end = put_right(out, number, 4, share);
-    end_row(out, 0, end)
-}
-
-// A kind's word, with a blank on either side.
-fn put_kind(out: &mut [u8], at: usize, kind: u8) -> usize
-    requires { ⌜ at + 5 ≤ length (now out) ⌝ }
-    ensures { λ r. ⌜ Puts at (32 ∷ (kindWord kind ++ (32 ∷ []))) (now (out .entry)) (now (out .exit)) r ⌝ }
-{
-    if kind == 0 {
-        put(out, at, b" any ")
-    } else {
-        put(out, at, b" all ")
-    }
-}
-
-fn put_mark(out: &mut [u8], at: usize, good: bool) -> usize
-    requires { ⌜ at + 1 ≤ length (now out) ⌝ }
-    ensures { λ r. ⌜ Puts at (mark good) (now (out .entry)) (now (out .exit)) r ⌝ }
-{
-    if good {
-        put(out, at, b"+")
-    } else {
-        put(out, at, b"-")
-    }
-}
-
-// The row of line i.
-fn put_line_row(out: &mut [u8], at: usize, i: usize, kind: u8, good: bool) -> usize
-    requires { ⌜ i < 64 ⌝ }
-    requires { ⌜ at + 41 ≤ length (now out) ⌝ }
-    ensures { λ r. ⌜ Puts at (lineRow i kind good) (now (out .entry)) (now (out .exit)) r ⌝ }
-{
-    let word = put_right(out, at, 2, i as u64);
-    let sign = put_kind(out, word, kind);
-    let end = put_mark(out, sign, good);
-    end_row(out, at, end)
-}
-
-// The rows of all lines of a file, of which those in `good` are.
-fn put_line_rows(file: &[u8], m: Model, good: u64, out: &mut [u8], at: usize) -> usize
-    requires { ⌜ Held (now file) m ⌝ }
-    requires { ⌜ at + 41 * m .lines ≤ length (now out) ⌝ }
-    ensures { λ r. ⌜ Puts at (rowsOf (m .lines) (λ i. lineRow i (getD (systemIn (now (file .entry)) m .kinds) i 0) (isMember good i))) (now (out .entry)) (now (out .exit)) r ⌝ }
-{
-    let kinds_at = m.kinds_at();
-    let n = m.lines;
-    let mut next = at;
-    let mut i = 0;
-    while i < n {
-        next = put_line_row(out, next, i, file[kinds_at + i], sets::member(good, i));
-        i += 1;
-    }
-    next
-}
-
-// The page of a file with these good lines, at the front.
-fn put_page(file: &[u8], m: Model, good: u64, out: &mut [u8]) -> usize
-    requires { ⌜ Held (now file) m ⌝ }
-    requires { ⌜ good < 2 ^ m .lines ⌝ }
-    requires { ⌜ 41 * (m .lines + 1) ≤ length (now out) ⌝ }
-    ensures { λ r. ⌜ Puts 0 (page (systemIn (now (file .entry)) m) good) (now (out .entry)) (now (out .exit)) r ⌝ }
-{
-    let share = text::share(sets::member_count(good), m.lines as u32);
-    let rows = put_first_row(out, m, share);
-    put_line_rows(file, m, good, out, rows)
-}
 
 // Makes the page of a file's judgement by built-in trees, from no line to all lines; a refusal changes nothing.
 pub fn make_page(file: &[u8], buffer: &mut [u8]) -> Paged
@@ -138,5 +33,5 @@ pub fn make_page(file: &[u8], buffer: &mut [u8]) -> Paged
     if buffer.len() < ROW_LENGTH * (m.lines + 1) {
         return Paged::Refused(Refusal::Room);
     }
-    Paged::Length(put_page(file, m, good, buffer))
+    Paged::Length(page_layout::put_page(file, m, good, buffer))
 }

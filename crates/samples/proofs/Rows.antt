@@ -11,7 +11,7 @@ use Rattle.fixpoint.specs.Restricted.{restricted, level, rise, fall, sumOver, l
 use Rattle.fixpoint.specs.Plain.{thenRounds, settle, plain}
 use Rattle.system.specs.Query.{selected, operands, setOf, query}
 use Rattle.text.specs.Text.{digits, places}
-use Rattle.bench_page.specs.Page.{rowsOf, page}
+use Rattle.page_layout.specs.Page.{rowsOf, page}
 use Rattle.samples.specs.Table.{table, Holds}
 
 pub samples-hold : Holds table

@@ -6,7 +6,7 @@ use Prim.Native.Nat.{ℕ}
 use Rattle.trees.specs.Built.{built, leafCount}
 use Rattle.system.specs.System.{System}
 use Rattle.routes.specs.Routes.{builtLeast, builtGreatest, nestedSet, plainRun, restrictedSet, restrictedCount}
-use Rattle.bench_page.specs.Page.{page}
+use Rattle.page_layout.specs.Page.{page}
 use Rattle.samples.specs.Models.{P, Q, one}
 
 -- what the definitions give, and what document 01 says

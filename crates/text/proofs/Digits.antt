@@ -1,17 +1,18 @@
--- Digits: as many as are asked for, put from the last to the first; and texts put one behind the other are one text.
+-- Digits: as many as are asked for, put from the last to the first; how long a number and its line are at most; and texts put one behind the other
+-- are one text.
 -- Assumes nothing.
 use mathlib.Core.Bool.{Bool, true, false, cond}
 use mathlib.Core.List.{List, [], _∷_, _++_, append-nil, append-assoc}
 use mathlib.Core.Path.{_≡_, refl, sym, _∙_, ap, ap₂}
-use Prim.Native.Nat.{ℕ, zero, suc, _+_, _-_, _/_, _%_, _^_, _≤_, _<_}
+use Prim.Native.Nat.{ℕ, zero, suc, _+_, _/_, _%_, _^_, _≤_, _<_}
 use native.Mathlib.Nat.{add-zero, pow-suc, div-lt-iff-lt-mul}
 use native.Mathlib.Omega.{arith}
 use lib.Dec.{ltb, lit<}
 use borrow.Author.Tests.{lt-ltb}
-use lib.ListN.{length, set, take, drop, length-append, length-set, length-replicate, replicate-append-replicate, take-append-drop}
-use lib.Seq.{take-length, length-take-le, drop-drop, paste, length-paste, take-paste, drop-paste}
-use Rattle.lists.proofs.Front.{front-store, back-store}
-use Rattle.text.specs.Text.{digit, digits, places, decimal, hex, blanks, setRight, numberLine, refusedWord, refusedLine, pasted, Puts}
+use lib.ListN.{length, set, take, drop, length-append, length-set, take-append-drop}
+use lib.Seq.{take-length, drop-drop, paste, length-paste, take-paste, drop-paste}
+use Rattle.lists.proofs.Front.{back-store}
+use Rattle.text.specs.Text.{digit, digits, places, decimal, hex, numberLine, refusedWord, refusedLine, pasted, Puts}
 
 pub digits-length : (base k x : ℕ) → length (digits base k x) ≡ k
 unfolding digits
@@ -125,26 +126,3 @@ puts-length {at} {r} {s} {out} h p = ap length (p .left) ∙ pasted-length at s 
 -- a text at the start of a buffer lies within it
 pub puts-fits : {r : ℕ} {s out out′ : List ℕ} → Puts 0 s out out′ r → r ≤ length out′
 puts-fits {s = s} {out = out} p = omega (arith, p .end, ap length (p .left), length-append s (drop (0 + length s) out))
-
--- blanks are put one by one from the front
-pub blanks-length : (k : ℕ) → length (blanks k) ≡ k
-blanks-length k = length-replicate {A = ℕ} k 32
-
-pub one-more-blank : {at : ℕ} {out mid : List ℕ} (i : ℕ) → at + i < length out → Puts at (blanks i) out mid (at + i)
-    → Puts at (blanks (i + 1)) out (set mid (at + i) 32) (at + (i + 1))
-one-more-blank {at} {out} {mid} i h p =
-    let front : length (take at out ++ blanks i) ≡ at + i = omega (arith, length-append (take at out) (blanks i), blanks-length i, length-take-le at out (omega arith)) in
-    let next : at + i + 1 ≡ at + length (blanks (i + 1)) = omega (arith, blanks-length (i + 1)) in
-    let held : mid ≡ (take at out ++ blanks i) ++ drop (at + i) out = p .left ∙ rw (blanks-length i) (sym (append-assoc (take at out) (blanks i) (drop (at + i) out))) in
-    record {
-      end = omega arith;
-      left = front-store (take at out ++ blanks i) out mid (at + i) 32 front h held
-          ∙ ap₂ (λ (x : List ℕ) (n : ℕ). x ++ drop n out) (append-assoc (take at out) (blanks i) (32 ∷ []) ∙ ap (λ (x : List ℕ). take at out ++ x) (replicate-append-replicate i 1 32))
-          next
-          ∙ append-assoc (take at out) (blanks (i + 1)) (drop (at + length (blanks (i + 1))) out);
-    }
-
--- a number below 10 ^ k, set to the right in k places
-pub right-length : (k x : ℕ) → 1 ≤ k → x < 10 ^ k → length (setRight k (decimal x)) ≡ k
-right-length k x some h =
-    omega (arith, length-append (blanks (k - length (decimal x))) (decimal x), blanks-length (k - length (decimal x)), digits-length 10 (places 19 x) x, places-within 19 k x some h)

@@ -1,10 +1,12 @@
-//! The three routes in safe Rust over the same bytes as the engine, with the same checks. The benchmark compares their speed with the
+//! The three routes and the bench page in safe Rust over the same bytes as the engine, with the same checks. The benchmark compares their speed with the
 //! engine's. They prove nothing and are no reference.
 //!
 //! - `whole`: a whole query at each leaf, and the recursion of document 01.
 //! - `by_levels`: the engine's own algorithm.
+//! - `page`: the bench page.
 
 pub mod by_levels;
+pub mod page;
 pub mod whole;
 
 use crate::Answer;

@@ -7,7 +7,8 @@ use native.Mathlib.Nat.{add-zero}
 use native.Mathlib.Omega.{arith}
 use lib.ListN.{length, length-set}
 use Rattle.text.specs.Text.{blanks, Puts}
-use Rattle.text.proofs.Digits.{puts-nothing, one-more-blank}
+use Rattle.text.proofs.Digits.{puts-nothing}
+use Rattle.text.proofs.Blanks.{one-more-blank}
 use borrow.Author.Needs.{needs}
 use Rattle.text.proofs.put_blanks.Statement.{statement}
 use Rattle.text.proofs.put_blanks.Tie as tie

@@ -5,7 +5,8 @@ use Prim.Native.Nat.{ℕ, _-_, _≤_}
 use native.Mathlib.Omega.{arith}
 use denote.Ref.{now}
 use Rattle.text.specs.Text.{places, digits, blanks, Puts}
-use Rattle.text.proofs.Digits.{digits-length, places-within, blanks-length, puts-then}
+use Rattle.text.proofs.Digits.{digits-length, places-within, puts-then}
+use Rattle.text.proofs.Blanks.{blanks-length}
 use borrow.Author.Needs.{needs}
 use Rattle.text.proofs.put_right.Statement.{statement}
 use Rattle.text.proofs.put_right.Tie as tie

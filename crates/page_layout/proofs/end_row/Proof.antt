@@ -1,11 +1,12 @@
--- `bench_page::end_row` meets its contract: the blanks, and the newline behind them.
+-- `page_layout::end_row` meets its contract: the blanks, and the newline behind them.
 -- Assumes nothing.
 use Prim.Native.Nat.{_+_, _-_}
 use native.Mathlib.Omega.{arith}
-use Rattle.text.proofs.Digits.{blanks-length, puts-then}
+use Rattle.text.proofs.Blanks.{blanks-length}
+use Rattle.text.proofs.Digits.{puts-then}
 use borrow.Author.Needs.{needs}
-use Rattle.bench_page.proofs.end_row.Statement.{statement}
-use Rattle.bench_page.proofs.end_row.Tie as tie
+use Rattle.page_layout.proofs.end_row.Statement.{statement}
+use Rattle.page_layout.proofs.end_row.Tie as tie
 
 add-put-blanks : tie.Need-add-put-blanks
 add-put-blanks c = search needs

@@ -1,4 +1,4 @@
--- `bench_page::put_first_row` meets its contract: its words and numbers are put one behind the other, and the row is ended.
+-- `page_layout::put_first_row` meets its contract: its words and numbers are put one behind the other, and the row is ended.
 -- Assumes nothing.
 use mathlib.Core.List.{[], _∷_}
 use mathlib.Core.Path.{_≡_}
@@ -6,11 +6,11 @@ use Prim.Native.Nat.{_≤_}
 use native.Mathlib.Omega.{arith}
 use lib.ListN.{length}
 use Rattle.text.proofs.Digits.{puts-then}
-use Rattle.bench_page.specs.Page.{linesWord, levelsWord, shareWord, numberIn}
-use Rattle.bench_page.proofs.Rows.{number-end, ended}
+use Rattle.page_layout.specs.Page.{linesWord, levelsWord, shareWord, numberIn}
+use Rattle.page_layout.proofs.Rows.{number-end, ended}
 use borrow.Author.Needs.{needs}
-use Rattle.bench_page.proofs.put_first_row.Statement.{statement}
-use Rattle.bench_page.proofs.put_first_row.Tie as tie
+use Rattle.page_layout.proofs.put_first_row.Statement.{statement}
+use Rattle.page_layout.proofs.put_first_row.Tie as tie
 
 -- the steps back from each number to the word in front of it, and from that to the number before
 abbrev start₁ : tie.After-put-right → tie.Start

@@ -1,4 +1,4 @@
--- `bench_page::put_line_rows` meets its contract. The loop's invariant: the rows so far are put; the measure is the rows to come.
+-- `page_layout::put_line_rows` meets its contract. The loop's invariant: the rows so far are put; the measure is the rows to come.
 -- Assumes nothing.
 use mathlib.Core.List.{List}
 use mathlib.Core.Path.{_≡_, refl, sym, _∙_, ap}
@@ -11,11 +11,11 @@ use Rattle.sets.specs.Set.{isMember}
 use Rattle.model.proofs.Places.{line-kind}
 use Rattle.text.specs.Text.{Puts}
 use Rattle.text.proofs.Digits.{puts-nothing, puts-then, puts-length}
-use Rattle.bench_page.specs.Page.{lineRow, rowsOf}
-use Rattle.bench_page.proofs.Rows.{line-row-length, rows-same}
+use Rattle.page_layout.specs.Page.{lineRow, rowsOf}
+use Rattle.page_layout.proofs.Rows.{line-row-length, rows-same}
 use borrow.Author.Needs.{needs}
-use Rattle.bench_page.proofs.put_line_rows.Statement.{statement}
-use Rattle.bench_page.proofs.put_line_rows.Tie as tie
+use Rattle.page_layout.proofs.put_line_rows.Statement.{statement}
+use Rattle.page_layout.proofs.put_line_rows.Tie as tie
 
 -- the row of line i, with its kind as the file has it
 abbrev rowAt : List ℕ → ℕ → ℕ → ℕ → List ℕ

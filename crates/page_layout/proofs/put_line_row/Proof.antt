@@ -1,4 +1,4 @@
--- `bench_page::put_line_row` meets its contract: the number, the kind and the mark are put one behind the other, and the row is ended.
+-- `page_layout::put_line_row` meets its contract: the number, the kind and the mark are put one behind the other, and the row is ended.
 -- Assumes nothing.
 use mathlib.Core.List.{[], _∷_, append-assoc}
 use mathlib.Core.Path.{_≡_}
@@ -6,12 +6,12 @@ use Prim.Native.Nat.{_+_, _≤_}
 use native.Mathlib.Omega.{arith}
 use lib.ListN.{length, length-append}
 use Rattle.text.proofs.Digits.{puts-then}
-use Rattle.bench_page.specs.Page.{kindWord, numberIn}
-use Rattle.bench_page.specs.Page as spec
-use Rattle.bench_page.proofs.Rows.{number-end, ended, kind-length, mark-length}
+use Rattle.page_layout.specs.Page.{kindWord, numberIn}
+use Rattle.page_layout.specs.Page as spec
+use Rattle.page_layout.proofs.Rows.{number-end, ended, kind-length, mark-length}
 use borrow.Author.Needs.{needs}
-use Rattle.bench_page.proofs.put_line_row.Statement.{statement}
-use Rattle.bench_page.proofs.put_line_row.Tie as tie
+use Rattle.page_layout.proofs.put_line_row.Statement.{statement}
+use Rattle.page_layout.proofs.put_line_row.Tie as tie
 
 -- the place behind each item, and the room
 number-room : (c : tie.After-put-right) → (c .put-right .result ≡ c .before .before .before .args .at + 2) × (c .put-right .result + 39 ≤ length (c .put-right .last .0))

@@ -3,13 +3,14 @@
 -- Assumes nothing.
 use mathlib.Core.Bool.{Bool, true, false}
 use mathlib.Core.List.{List, [], _∷_, _++_, append-assoc}
-use mathlib.Core.Path.{_≡_, refl, sym, _∙_, ap, ap₂}
+use mathlib.Core.Path.{_≡_, refl, _∙_, ap, ap₂}
 use Prim.Native.Nat.{ℕ, zero, suc, _+_, _-_, _*_, _^_, _≤_, _<_}
 use native.Mathlib.Omega.{arith}
 use lib.ListN.{length, length-append}
 use Rattle.text.specs.Text.{blanks, Puts}
-use Rattle.text.proofs.Digits.{right-length, blanks-length, puts-then}
-use Rattle.bench_page.specs.Page.{linesWord, levelsWord, shareWord, kindWord, mark, numberIn, spaced, row, firstRow, lineRow, rowsOf}
+use Rattle.text.proofs.Blanks.{blanks-length, right-length}
+use Rattle.text.proofs.Digits.{puts-then}
+use Rattle.page_layout.specs.Page.{linesWord, levelsWord, shareWord, kindWord, mark, numberIn, spaced, row, firstRow, lineRow, rowsOf}
 
 -- the place behind a number that fits in its places
 pub number-end : (k x : ℕ) {at r : ℕ} {out out′ : List ℕ} → 1 ≤ k → x < 10 ^ k → Puts at (numberIn k x) out out′ r → r ≡ at + k

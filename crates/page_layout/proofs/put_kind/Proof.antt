@@ -1,8 +1,17 @@
--- `bench_page::put_mark` meets its contract: a good line has the one mark, any other line the other.
+-- `page_layout::put_kind` meets its contract: each kind has its word.
 -- Assumes nothing.
+use mathlib.Core.List.{[], _∷_}
+use mathlib.Core.Path.{_≡_, refl}
+use Prim.Native.Nat.{ℕ, zero, suc}
+use Rattle.page_layout.specs.Page.{kindWord}
 use borrow.Author.Needs.{needs}
-use Rattle.bench_page.proofs.put_mark.Statement.{statement}
-use Rattle.bench_page.proofs.put_mark.Tie as tie
+use Rattle.page_layout.proofs.put_kind.Statement.{statement}
+use Rattle.page_layout.proofs.put_kind.Tie as tie
+
+-- every kind but 0 is all
+other-kind : (kind : ℕ) → (kind ≡ 0 → ⊥) → kindWord kind ≡ 97 ∷ 108 ∷ 108 ∷ []
+other-kind zero h = absurd (h refl)
+other-kind (suc k) h = refl
 
 slice-aggregate-put : tie.Need-slice-aggregate-put
 slice-aggregate-put c = search needs
@@ -26,10 +35,12 @@ same-length-2 : tie.Need-same-length-2
 same-length-2 c = search needs
 
 returns-2 : tie.Need-returns-2
-returns-2 c = rw (c .before .before .before .before .before .if1 .left) (c .before .before .put2 .ensures)
+returns-2 c =
+    let test = c .before .before .before .before .before in
+    rw (other-kind (test .before .before .args .kind) (test .if1 .left)) (c .before .before .put2 .ensures)
 
-pub put-mark-spec : {M : Type 1} → statement M
-put-mark-spec =
+pub put-kind-spec : {M : Type 1} → statement M
+put-kind-spec =
     tie.close
     (tie.spec
     slice-aggregate-put

@@ -1,4 +1,4 @@
--- `bench_page::put_page` meets its contract: the first row with the share of the good lines, and the lines' rows behind it.
+-- `page_layout::put_page` meets its contract: the first row with the share of the good lines, and the lines' rows behind it.
 -- Assumes nothing.
 use mathlib.Core.Path.{_≡_, _∙_, ap}
 use Prim.Native.Nat.{ℕ, _≤_}
@@ -6,12 +6,12 @@ use native.Mathlib.Omega.{arith}
 use Rattle.sets.specs.Set.{members}
 use Rattle.text.specs.Text.{shareOf}
 use Rattle.text.proofs.Digits.{puts-then}
-use Rattle.bench_page.specs.Page.{page}
-use Rattle.bench_page.proofs.Rows.{first-row-length}
-use Rattle.bench_page.proofs.Pages.{share-few}
+use Rattle.page_layout.specs.Page.{page}
+use Rattle.page_layout.proofs.Rows.{first-row-length}
+use Rattle.page_layout.proofs.Pages.{share-few}
 use borrow.Author.Needs.{needs}
-use Rattle.bench_page.proofs.put_page.Statement.{statement}
-use Rattle.bench_page.proofs.put_page.Tie as tie
+use Rattle.page_layout.proofs.put_page.Statement.{statement}
+use Rattle.page_layout.proofs.put_page.Tie as tie
 
 abbrev start : tie.After-share → tie.Start
 start c = c .before .before .before .before .before

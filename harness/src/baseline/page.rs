@@ -1,0 +1,65 @@
+//! The bench page over the judgement of `by_levels`: items put one behind the other, as the engine puts them.
+
+use super::{by_levels, full_set, Model};
+use crate::Answer;
+
+const ROW_PLACES: usize = 40;
+
+/// Puts a text at a place, and gives the place behind it.
+fn put(out: &mut [u8], at: usize, text: &[u8]) -> usize {
+    let end = at + text.len();
+    out[at..end].copy_from_slice(text);
+    end
+}
+
+fn put_blanks(out: &mut [u8], at: usize, count: usize) -> usize {
+    out[at..at + count].fill(b' ');
+    at + count
+}
+
+fn put_right(out: &mut [u8], at: usize, places: usize, x: u64) -> usize {
+    let (mut digits, mut rest) = (1, x);
+    while rest > 9 {
+        rest /= 10;
+        digits += 1;
+    }
+    let first = put_blanks(out, at, places - digits);
+    rest = x;
+    for digit in out[first..first + digits].iter_mut().rev() {
+        *digit = b'0' + (rest % 10) as u8;
+        rest /= 10;
+    }
+    at + places
+}
+
+fn end_row(out: &mut [u8], start: usize, at: usize) -> usize {
+    let end = put_blanks(out, at, start + ROW_PLACES - at);
+    put(out, end, b"\n")
+}
+
+pub fn page(file: &[u8], buffer: &mut [u8]) -> Answer {
+    let m = match Model::check(file) {
+        Ok(m) => m,
+        Err(number) => return Answer::refused(number),
+    };
+    let n = m.lines;
+    let set = by_levels::built(file, 0, full_set(n)).set;
+    if buffer.len() < (ROW_PLACES + 1) * (n + 1) {
+        return Answer::refused(12);
+    }
+    let share = (2000 * set.count_ones() as u64 + n as u64) / (2 * n as u64);
+    let mut at = put(buffer, 0, b"lines ");
+    at = put_right(buffer, at, 2, n as u64);
+    at = put(buffer, at, b" levels ");
+    at = put_right(buffer, at, 1, m.levels as u64);
+    at = put(buffer, at, b" share ");
+    at = put_right(buffer, at, 4, share);
+    let mut next = end_row(buffer, 0, at);
+    for i in 0..n {
+        at = put_right(buffer, next, 2, i as u64);
+        at = put(buffer, at, if file[m.kinds_at() + i] == 0 { b" any " } else { b" all " });
+        at = put(buffer, at, if set >> i & 1 == 1 { b"+" } else { b"-" });
+        next = end_row(buffer, next, at);
+    }
+    Answer { length: next as u64, ..Answer::default() }
+}
