@@ -2,7 +2,7 @@
 -- Assumes nothing.
 use mathlib.Core.List.{List, _++_}
 use mathlib.Core.Path.{_≡_, refl, sym, _∙_, ap}
-use Prim.Native.Nat.{ℕ, zero, suc, _≤_, _<_}
+use Prim.Native.Nat.{ℕ, _≤_, _<_}
 use native.Mathlib.Nat.{zero-add}
 use native.Mathlib.Omega.{arith}
 use lib.ListN.{length, drop}
@@ -16,7 +16,8 @@ use Rattle.bench_page.specs.Says.{pageOf, pageNumber, PageSays}
 use Rattle.bench_page.specs.declared.Paged.the-variants as paged
 use Rattle.bench_page.proofs.Pages.{page-number, longest-page}
 use Rattle.text.specs.Text.{refusedLine, Puts}
-use Rattle.page_report.specs.Report.{pageOrRefused, pageText}
+use Rattle.text.proofs.Digits.{refused-line}
+use Rattle.page_report.specs.Report.{pageText}
 
 module _ (file out : List ℕ) (enough : 2665 ≤ length out) where
   number-known : pageNumber file (length out) ≡ fileNumber file
@@ -41,8 +42,4 @@ module _ (file out : List ℕ) (enough : 2665 ≤ length out) where
       let number : numberOf e ≡ pageNumber file (length out) = ap (λ (x : Answer). x .number) (says .answer) ∙ unless-number (pageNumber file (length out)) _ refl in
       let positive : 0 < pageNumber file (length out) = omega (arith, number-positive e) in
       let kept : out′ ≡ out = says .left ∙ sym (filled-refused (pageOf file) out positive) in
-      rw (sym (text (fileNumber file) (number ∙ number-known))) (rw kept at put)
-    where
-      text : (n : ℕ) → numberOf e ≡ n → refusedLine (numberOf e) ≡ pageOrRefused n file
-      text zero p = absurd (omega (arith, number-positive e))
-      text (suc n) p = ap refusedLine p
+      rw (sym number-known, refused-line (pageOf file) positive, sym number) (rw kept at put)

@@ -2,19 +2,15 @@
 -- Assumes nothing.
 use mathlib.Core.Bool.{cond}
 use mathlib.Core.List.{List, []}
-use Prim.Native.Nat.{ℕ, zero, suc}
+use Prim.Native.Nat.{ℕ}
 use lib.Dec.{ltb}
 use lib.ListN.{length}
 use Rattle.checker.specs.Checks.{fileNumber}
 use Rattle.bench_page.specs.Says.{pageOf}
-use Rattle.text.specs.Text.{refusedLine}
-
-abbrev pub pageOrRefused : ℕ → List ℕ → List ℕ
-pageOrRefused zero file = pageOf file
-pageOrRefused (suc e) file = refusedLine (suc e)
+use Rattle.text.specs.Text.{textOrRefused}
 
 unfoldable pub pageText : List ℕ → List ℕ
-pageText file = pageOrRefused (fileNumber file) file
+pageText file = textOrRefused (fileNumber file) (pageOf file)
 
 -- making the text in a lent buffer; one under 2,665 bytes, the longest page, is left as it was, and no text is made
 abbrev pub madeText : List ℕ → List ℕ → List ℕ

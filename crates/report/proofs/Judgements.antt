@@ -2,8 +2,7 @@
 -- Assumes nothing.
 use mathlib.Core.List.{List, _++_}
 use mathlib.Core.Path.{_≡_, sym, _∙_, ap, ap₂}
-use Prim.Native.Nat.{ℕ, zero, suc, min, _<_}
-use native.Mathlib.Omega.{arith}
+use Prim.Native.Nat.{ℕ, min}
 use Rattle.answers.specs.Answer.{Answer, numberOf}
 use Rattle.answers.specs.declared.Refusal.{Refusal}
 use Rattle.sets.specs.Set.{full}
@@ -14,18 +13,15 @@ use Rattle.model.proofs.Refusals.{RefusedAs}
 use Rattle.checker.proofs.Accepted.{Checked, all-lines}
 use Rattle.solver.specs.Says.{judgedAnswer, PlainSays, BuiltSays}
 use Rattle.solver.specs.declared.Judged.{Judged}
-use Rattle.text.specs.Text.{refusedLine}
-use Rattle.report.specs.Report.{plainWord, treeWord, answerLine, shareLine, linesOrRefused, reportText}
+use Rattle.text.specs.Text.{refusedLine, textOrRefused}
+use Rattle.text.proofs.Digits.{refused-line}
+use Rattle.report.specs.Report.{plainWord, treeWord, answerLine, shareLine, threeLines, reportText}
 
 module _ (file : List ℕ) where
   -- a refused file's text is its refusal's line
   pub refused-text : {e : Refusal} → RefusedAs (fileNumber file) e → refusedLine (numberOf e) ≡ reportText file
   unfolding reportText
-  refused-text {e} h = at (fileNumber file) (h .number) (h .positive)
-    where
-      at : (n : ℕ) → numberOf e ≡ n → 0 < n → refusedLine (numberOf e) ≡ linesOrRefused n file
-      at zero p q = absurd (omega arith)
-      at (suc n) p q = ap refusedLine p
+  refused-text h = ap refusedLine (h .number) ∙ sym (refused-line (threeLines file) (h .positive))
 
   -- the three lines, from what the file's check, its mask of all lines and both judgings say
   pub accepted-text : {m : Model} {all : ℕ} {p t : Judged} → Checked file m → all ≡ full (min (m .lines) 64) → PlainSays file 0 all 1000000 p → BuiltSays file 0 all t
@@ -36,4 +32,4 @@ module _ (file : List ℕ) where
       let last : Answer → List ℕ = λ x. treeWord ++ (answerLine x ++ shareLine (x .set) (linesIn file)) in
       ap (λ (n : ℕ). plainWord ++ (answerLine (judgedAnswer p) ++ (treeWord ++ (answerLine (judgedAnswer t) ++ shareLine (judgedAnswer t .set) n)))) (known .counts .lines)
       ∙ ap₂ (λ (x y : Answer). plainWord ++ (answerLine x ++ last y)) ((rw lines at plain) .answer) ((rw lines at tree) .answer)
-      ∙ ap (λ (e : ℕ). linesOrRefused e file) (sym (known .counts .number))
+      ∙ ap (λ (e : ℕ). textOrRefused e (threeLines file)) (sym (known .counts .number))

@@ -2,7 +2,7 @@
 -- Assumes nothing.
 use mathlib.Core.Bool.{cond}
 use mathlib.Core.List.{List, [], _∷_, _++_}
-use Prim.Native.Nat.{ℕ, zero, suc}
+use Prim.Native.Nat.{ℕ}
 use lib.Dec.{ltb}
 use lib.ListN.{length}
 use Rattle.answers.specs.Answer.{Answer}
@@ -10,7 +10,7 @@ use Rattle.sets.specs.Set.{full, members}
 use Rattle.model.specs.File.{decode}
 use Rattle.checker.specs.Checks.{fileNumber}
 use Rattle.solver.specs.Says.{plainAnswer, builtAnswer}
-use Rattle.text.specs.Text.{hex, numberLine, refusedLine, shareOf}
+use Rattle.text.specs.Text.{hex, numberLine, textOrRefused, shareOf}
 
 -- the words of the output, in ASCII, each with a blank behind it
 abbrev pub plainWord : List ℕ
@@ -26,14 +26,9 @@ shareWord = 115 ∷ 104 ∷ 97 ∷ 114 ∷ 101 ∷ 32 ∷ []
 abbrev pub foundLine : ℕ → ℕ → List ℕ
 foundLine set count = hex set ++ numberLine (32 ∷ []) count
 
--- by the number with which judging refuses, or 0
-abbrev pub foundOrRefused : ℕ → ℕ → ℕ → List ℕ
-foundOrRefused zero set count = foundLine set count
-foundOrRefused (suc e) set count = refusedLine (suc e)
-
 -- what follows the word of a route
 abbrev pub answerLine : Answer → List ℕ
-answerLine x = foundOrRefused (x .number) (x .set) (x .count)
+answerLine x = textOrRefused (x .number) (foundLine (x .set) (x .count))
 
 -- the line of the share of a set in n lines
 abbrev pub shareLine : ℕ → ℕ → List ℕ
@@ -47,12 +42,8 @@ threeLines file =
     let tree = builtAnswer file 0 (full n) in
     plainWord ++ (answerLine plain ++ (treeWord ++ (answerLine tree ++ shareLine (tree .set) n)))
 
-abbrev pub linesOrRefused : ℕ → List ℕ → List ℕ
-linesOrRefused zero file = threeLines file
-linesOrRefused (suc e) file = refusedLine (suc e)
-
 unfoldable pub reportText : List ℕ → List ℕ
-reportText file = linesOrRefused (fileNumber file) file
+reportText file = textOrRefused (fileNumber file) (threeLines file)
 
 -- making the text in a lent buffer; a buffer under 128 bytes is left as it was, and no text is made
 abbrev pub madeText : List ℕ → List ℕ → List ℕ

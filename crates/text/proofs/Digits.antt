@@ -12,7 +12,7 @@ use borrow.Author.Tests.{lt-ltb}
 use lib.ListN.{length, set, take, drop, length-append, length-set, take-append-drop}
 use lib.Seq.{take-length, drop-drop, paste, length-paste, take-paste, drop-paste}
 use Rattle.lists.proofs.Front.{back-store}
-use Rattle.text.specs.Text.{digit, digits, places, decimal, hex, numberLine, refusedWord, refusedLine, pasted, Puts}
+use Rattle.text.specs.Text.{digit, digits, places, decimal, hex, numberLine, refusedWord, refusedLine, textOrRefused, pasted, Puts}
 
 pub digits-length : (base k x : ℕ) → length (digits base k x) ≡ k
 unfolding digits
@@ -100,6 +100,11 @@ decimal-few x = omega (arith, digits-length 10 (places 19 x) x, places-few 19 x)
 
 pub number-line-few : (word : List ℕ) (x : ℕ) → length (numberLine word x) ≤ length word + 21
 number-line-few word x = omega (arith, length-append word (decimal x ++ (10 ∷ [])), length-append (decimal x) (10 ∷ []), decimal-few x)
+
+-- a number that refuses has its line
+pub refused-line : {e : ℕ} (text : List ℕ) → 0 < e → textOrRefused e text ≡ refusedLine e
+refused-line {e = zero} text h = absurd (omega arith)
+refused-line {e = suc e} text h = refl
 
 pub refused-few : (e : ℕ) → length (refusedLine e) ≤ 29
 refused-few e = number-line-few refusedWord e

@@ -51,6 +51,11 @@ refusedWord = 114 ∷ 101 ∷ 102 ∷ 117 ∷ 115 ∷ 101 ∷ 100 ∷ 32 ∷ []
 abbrev pub refusedLine : ℕ → List ℕ
 refusedLine e = numberLine refusedWord e
 
+-- a text, or, where a number refuses, the line of that refusal
+abbrev pub textOrRefused : ℕ → List ℕ → List ℕ
+textOrRefused zero text = text
+textOrRefused (suc e) text = refusedLine (suc e)
+
 -- the share (document 01, "The judging program"): 1000 times good over n, rounded to a whole number, a half upwards; of no lines, 0, as
 -- division by 0 has it
 abbrev pub shareOf : ℕ → ℕ → ℕ

@@ -1,7 +1,8 @@
 -- `report::put_judged` meets its contract: each case of the judgement has its line.
 -- Assumes nothing.
 use borrow.Author.Needs.{needs}
-use Rattle.report.proofs.Lines.{refused-line}
+use Rattle.answers.proofs.Checks.{number-positive}
+use Rattle.text.proofs.Digits.{refused-line}
 use Rattle.report.proofs.put_judged.Statement.{statement}
 use Rattle.report.proofs.put_judged.Tie as tie
 
@@ -32,7 +33,7 @@ same-length-2 c = search needs
 returns-2 : tie.Need-returns-2
 returns-2 c =
     let number = c .before .before .before in
-    rw (number .before .before .before .j2 .given .1, refused-line _ 0 0) (rw (number .number .ensures) at (c .before .before .put-refused .ensures))
+    rw (number .before .before .before .j2 .given .1, refused-line _ (number-positive (number .before .before .before .j2 .given .0 .0))) (rw (number .number .ensures) at (c .before .before .put-refused .ensures))
 
 pub put-judged-spec : {M : Type 1} → statement M
 put-judged-spec =
