@@ -6,10 +6,9 @@ use Prim.Native.Nat.{ℕ, _+_, _*_, _^_, _≤_, _<_}
 use native.Mathlib.Nat.{zero-add}
 use native.Mathlib.Omega.{arith}
 use borrow.Author.Tests.{lt-ltb}
-use lib.Dec.{ltb}
 use lib.ListN.{length, drop}
 use Rattle.answers.specs.Answer.{Answer}
-use Rattle.answers.specs.Check.{Check, _if_}
+use Rattle.answers.specs.Check.{_if_}
 use Rattle.answers.specs.declared.Refusal.{Refusal}
 use Rattle.answers.specs.declared.Refusal.the-variants.{Room}
 use Rattle.sets.specs.Set.{full}
@@ -28,7 +27,7 @@ use Rattle.text.specs.Text.{Puts}
 use Rattle.page_layout.specs.Page.{page}
 use Rattle.bench_page.specs.Says.{pageOf, pageNumber, PageSays}
 use Rattle.bench_page.specs.declared.Paged.the-variants as paged
-use Rattle.bench_page.proofs.Pages.{shown-below, file-page-length, page-number}
+use Rattle.bench_page.proofs.Pages.{roomChecks, shown-below, file-page-length, page-number}
 
 -- the set that judging found is the one that the page shows; all is the mask of all lines
 module _ (file : List ℕ) {all set count : ℕ} (mask : all ≡ full (linesIn file)) (says : BuiltSays file 0 all (judgement.Found set count)) where
@@ -42,30 +41,27 @@ module _ (file buffer : List ℕ) where
   abbrev room : ℕ
   room = length buffer
 
-  abbrev lastCheck : List Check
-  lastCheck = 12 if ltb room (length (pageOf file)) ∷ []
-
   page-refused : {e : Refusal} → RefusedAs (pageNumber file room) e → PageSays file buffer (paged.Refused e) buffer
   page-refused h = record { answer = refused-answer h (made _); left = filled-refused (pageOf file) buffer (h .positive) }
 
   pub file-refused : {e : Refusal} → RefusedAs (fileNumber file) e → PageSays file buffer (paged.Refused e) buffer
   unfolding pageNumber fileNumber
   file-refused h =
-      page-refused (refused-before (boundChecks file 0 (full (linesIn file))) lastCheck (refused-before (fileChecks file) (9 if misplaced (linesIn file) 0 (full (linesIn file)) ∷ []) h))
+      page-refused (refused-before (boundChecks file 0 (full (linesIn file))) (roomChecks file room) (refused-before (fileChecks file) (9 if misplaced (linesIn file) 0 (full (linesIn file)) ∷ []) h))
 
   module _ {all : ℕ} (mask : all ≡ full (linesIn file)) where
     pub judging-refused : {e : Refusal} → BuiltSays file 0 all (judgement.Refused e) → PageSays file buffer (paged.Refused e) buffer
     unfolding pageNumber boundNumber
     judging-refused {e} says =
         let number = sym (ap (λ (x : Answer). x .number) ((rw mask at says) .answer) ∙ unless-number (boundNumber file 0 (full (linesIn file))) _ refl) in
-        page-refused (refused-before (boundChecks file 0 (full (linesIn file))) lastCheck (refused-by e number))
+        page-refused (refused-before (boundChecks file 0 (full (linesIn file))) (roomChecks file room) (refused-by e number))
 
     module _ {m : Model} (known : Checked file m) where
       pub short-buffer : room < 41 * (m .lines + 1) → PageSays file buffer (paged.Refused Room) buffer
       unfolding pageNumber
       short-buffer h =
           let short : room < length (pageOf file) = omega (arith, file-page-length file (known .counts .number), known .counts .lines) in
-          page-refused (refused-by Room (after-bounds file 0 (full (linesIn file)) lastCheck (never-misplaced file ∙ known .counts .number) ∙ rw (lt-ltb room (length (pageOf file)) short)))
+          page-refused (refused-by Room (after-bounds file 0 (full (linesIn file)) (roomChecks file room) (never-misplaced file ∙ known .counts .number) ∙ rw (lt-ltb room (length (pageOf file)) short)))
 
       pub page-made : {set count bytes : ℕ} {buffer′ : List ℕ} → BuiltSays file 0 all (judgement.Found set count) → 41 * (m .lines + 1) ≤ room
           → Puts 0 (page (systemIn file m) set) buffer buffer′ bytes → PageSays file buffer (paged.Length bytes) buffer′

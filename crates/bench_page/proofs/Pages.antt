@@ -10,16 +10,12 @@ use lib.ListN.{length}
 use Rattle.answers.specs.Check.{Check, _if_, firstOf}
 use Rattle.answers.proofs.Checks.{first-before, before-passes}
 use Rattle.sets.specs.Set.{full}
-use Rattle.sets.proofs.Order.{refl⊑, empty-least}
 use Rattle.sets.proofs.Range.{full-below}
-use Rattle.fixpoint.specs.Lawful.{Range}
-use Rattle.fixpoint.specs.Sets.{sets}
-use Rattle.fixpoint.proofs.Sets.{sets-range}
 use Rattle.model.specs.File.{linesIn, decode}
 use Rattle.checker.specs.Checks.{fileNumber}
 use Rattle.checker.proofs.Accepted.{accepted}
 use Rattle.admission.specs.Checks.{boundChecks, boundNumber}
-use Rattle.admission.proofs.Admitted.{never-misplaced}
+use Rattle.admission.proofs.Admitted.{whole-range, never-misplaced}
 use Rattle.routes.specs.Routes.{builtLeast, builtGreatest, nestedSet}
 use Rattle.routes.proofs.Promises.{built-nested, restricted-inside}
 use Rattle.solver.specs.Checks.{builtNumber}
@@ -28,19 +24,20 @@ use Rattle.page_layout.specs.Page.{page}
 use Rattle.page_layout.proofs.Pages.{page-length}
 use Rattle.bench_page.specs.Says.{pageOf, pageNumber}
 
+-- the checks behind those of judging
+abbrev pub roomChecks : List ℕ → ℕ → List Check
+roomChecks file room = 12 if ltb room (length (pageOf file)) ∷ []
+
 module _ (file : List ℕ) (accepted-file : fileNumber file ≡ 0) where
   -- what is shown is judged
   judged-whole : builtNumber file 0 (full (linesIn file)) ≡ 0
   judged-whole = never-misplaced file ∙ accepted-file
 
-  range : Range (sets (linesIn file)) 0 (full (linesIn file))
-  range = sets-range (linesIn file) 0 (full (linesIn file)) (empty-least (full (linesIn file))) (full-below (linesIn file) (full (linesIn file)) (refl⊑ (full (linesIn file))))
-
   pub shown-below : builtAnswer file 0 (full (linesIn file)) .set < 2 ^ linesIn file
   unfolding decode
   shown-below =
       let s = decode file in
-      let inside = restricted-inside s 0 (full (linesIn file)) range (builtLeast s (s .lines)) (builtGreatest s (s .lines)) in
+      let inside = restricted-inside s 0 (full (linesIn file)) (whole-range (linesIn file)) (builtLeast s (s .lines)) (builtGreatest s (s .lines)) in
       rw judged-whole (full-below (linesIn file) _ (inside .below))
 
   -- the page of an accepted file has n + 1 rows
@@ -57,7 +54,7 @@ module _ (file : List ℕ) (accepted-file : fileNumber file ≡ 0) where
   -- and it shows the nested fixpoint from no line to all lines
   pub page-nested : pageOf file ≡ page (decode file) (nestedSet (decode file) 0 (full (linesIn file)))
   unfolding pageOf decode
-  page-nested = rw judged-whole (ap (page (decode file)) (built-nested (decode file) 0 (full (linesIn file)) range (accepted file accepted-file .header .lines-least)))
+  page-nested = rw judged-whole (ap (page (decode file)) (built-nested (decode file) 0 (full (linesIn file)) (whole-range (linesIn file)) (accepted file accepted-file .header .lines-least)))
 
 -- where there is room for the page of an accepted file, the file alone is turned down
 pub page-number : (file : List ℕ) (room : ℕ) → (fileNumber file ≡ 0 → 41 * (linesIn file + 1) ≤ room) → pageNumber file room ≡ fileNumber file
@@ -67,9 +64,6 @@ page-number file room enough = at (fileNumber file) refl
     bounds : List Check
     bounds = boundChecks file 0 (full (linesIn file))
 
-    last : List Check
-    last = 12 if ltb room (length (pageOf file)) ∷ []
-
-    at : (e : ℕ) → fileNumber file ≡ e → firstOf (bounds ++ last) ≡ fileNumber file
-    at zero h = before-passes bounds last (le-ltb room (length (pageOf file)) (omega (arith, file-page-length file h, enough h)), tt) ∙ never-misplaced file
-    at (suc e) h = first-before bounds last (omega (arith, never-misplaced file)) ∙ never-misplaced file
+    at : (e : ℕ) → fileNumber file ≡ e → firstOf (bounds ++ roomChecks file room) ≡ fileNumber file
+    at zero h = before-passes bounds (roomChecks file room) (le-ltb room (length (pageOf file)) (omega (arith, file-page-length file h, enough h)), tt) ∙ never-misplaced file
+    at (suc e) h = first-before bounds (roomChecks file room) (omega (arith, never-misplaced file)) ∙ never-misplaced file

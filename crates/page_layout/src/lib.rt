@@ -31,12 +31,12 @@ fn put_first_row(out: &mut [u8], m: Model, share: u64) -> usize
     requires { ⌜ 41 ≤ length (now out) ⌝ }
     ensures { λ r. ⌜ Puts 0 (firstRow (m .lines) (m .levels) share) (now (out .entry)) (now (out .exit)) r ⌝ }
 {
-    let n = put(out, 0, b"lines ");
-    let levels = put_right(out, n, 2, m.lines as u64);
-    let d = put(out, levels, b" levels ");
-    let word = put_right(out, d, 1, m.levels as u64);
-    let number = put(out, word, b" share ");
-    let end = put_right(out, number, 4, share);
+    let lines = put(out, 0, b"lines ");
+    let lines_end = put_right(out, lines, 2, m.lines as u64);
+    let levels = put(out, lines_end, b" levels ");
+    let levels_end = put_right(out, levels, 1, m.levels as u64);
+    let thousandths = put(out, levels_end, b" share ");
+    let end = put_right(out, thousandths, 4, share);
     end_row(out, 0, end)
 }
 
@@ -52,6 +52,7 @@ fn put_kind(out: &mut [u8], at: usize, kind: u8) -> usize
     }
 }
 
+// A good line's mark, or the others'.
 fn put_mark(out: &mut [u8], at: usize, good: bool) -> usize
     requires { ⌜ at + 1 ≤ length (now out) ⌝ }
     ensures { λ r. ⌜ Puts at (mark good) (now (out .entry)) (now (out .exit)) r ⌝ }
@@ -69,13 +70,13 @@ fn put_line_row(out: &mut [u8], at: usize, i: usize, kind: u8, good: bool) -> us
     requires { ⌜ at + 41 ≤ length (now out) ⌝ }
     ensures { λ r. ⌜ Puts at (lineRow i kind good) (now (out .entry)) (now (out .exit)) r ⌝ }
 {
-    let word = put_right(out, at, 2, i as u64);
-    let sign = put_kind(out, word, kind);
-    let end = put_mark(out, sign, good);
+    let number_end = put_right(out, at, 2, i as u64);
+    let kind_end = put_kind(out, number_end, kind);
+    let end = put_mark(out, kind_end, good);
     end_row(out, at, end)
 }
 
-// The rows of all lines of a file, of which those in `good` are.
+// The rows of a file's lines, of which those in `good` are good.
 fn put_line_rows(file: &[u8], m: Model, good: u64, out: &mut [u8], at: usize) -> usize
     requires { ⌜ Held (now file) m ⌝ }
     requires { ⌜ at + 41 * m .lines ≤ length (now out) ⌝ }

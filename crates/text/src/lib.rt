@@ -85,8 +85,8 @@ pub fn put_right(out: &mut [u8], at: usize, k: usize, x: u64) -> usize
     ensures { λ r. ⌜ Puts at (setRight k (decimal x)) (now (out .entry)) (now (out .exit)) r ⌝ }
 {
     let places = decimal_places(x);
-    let digits = put_blanks(out, at, k - places);
-    put_digits(out, digits, 10, places, x)
+    let first = put_blanks(out, at, k - places);
+    put_digits(out, first, 10, places, x)
 }
 
 // A line: a word and a decimal number.
