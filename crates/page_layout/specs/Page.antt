@@ -42,6 +42,7 @@ spaced (item ∷ next ∷ items) = item ++ (32 ∷ spaced (next ∷ items))
 abbrev pub row : List (List ℕ) → List ℕ
 row items = setLeft 40 (spaced items) ++ (10 ∷ [])
 
+-- the row of the counts and the share
 abbrev pub firstRow : ℕ → ℕ → ℕ → List ℕ
 firstRow n d share = row (linesWord ∷ numberIn 2 n ∷ levelsWord ∷ numberIn 1 d ∷ shareWord ∷ numberIn 4 share ∷ [])
 
