@@ -18,8 +18,8 @@ pub fn page_text(model: &Model) -> String {
     let mut rows = vec![format!("lines {n:>2} levels {d:>1} share {share:>4}")];
     for i in 0..n {
         let kind = if model.all[i] { "all" } else { "any" };
-        let sign = if good[i] { '+' } else { '-' };
-        rows.push(format!("{i:>2} {kind} {sign}"));
+        let mark = if good[i] { '+' } else { '-' };
+        rows.push(format!("{i:>2} {kind} {mark}"));
     }
     rows.iter().map(|row| format!("{row:<40}\n")).collect()
 }
