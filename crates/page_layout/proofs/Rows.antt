@@ -7,8 +7,9 @@ use mathlib.Core.Path.{_≡_, refl, _∙_, ap, ap₂}
 use Prim.Native.Nat.{ℕ, zero, suc, _+_, _-_, _*_, _^_, _≤_, _<_}
 use native.Mathlib.Omega.{arith}
 use lib.ListN.{length, length-append}
-use Rattle.text.specs.Text.{blanks, Puts}
-use Rattle.text.proofs.Blanks.{blanks-length, right-length}
+use Rattle.text.specs.Text.{Puts}
+use Rattle.padding.specs.Padding.{blanks}
+use Rattle.padding.proofs.Blanks.{blanks-length, right-length}
 use Rattle.text.proofs.Digits.{puts-then}
 use Rattle.page_layout.specs.Page.{linesWord, levelsWord, shareWord, kindWord, mark, numberIn, spaced, row, firstRow, lineRow, rowsOf}
 

@@ -7,7 +7,8 @@ use Prim.Native.Nat.{ℕ, zero, suc}
 use lib.ListN.{getD}
 use Rattle.sets.specs.Set.{isMember, members}
 use Rattle.system.specs.System.{System}
-use Rattle.text.specs.Text.{decimal, setRight, setLeft, shareOf}
+use Rattle.text.specs.Text.{decimal, shareOf}
+use Rattle.padding.specs.Padding.{setRight, setLeft}
 
 -- the words of the page, in ASCII
 abbrev pub linesWord : List ℕ

@@ -4,12 +4,13 @@ ghost use Prim.Native.Nat.{_+_, _-_, _*_, _^_, _≤_, _<_};
 ghost use lib.ListN.{length, getD};
 ghost use Rattle.sets.specs.Set.{isMember};
 ghost use Rattle.model.specs.Held.{Held, systemIn};
-ghost use Rattle.text.specs.Text.{blanks, Puts};
+ghost use Rattle.text.specs.Text.{Puts};
+ghost use Rattle.padding.specs.Padding.{blanks};
 ghost use Rattle.page_layout.specs.Page.{kindWord, mark, firstRow, lineRow, rowsOf, page};
 use model::Model;
+use padding::put_blanks;
+use padding::put_right;
 use text::put;
-use text::put_blanks;
-use text::put_right;
 
 // A row's characters, without its newline.
 const ROW_PLACES: usize = 40;

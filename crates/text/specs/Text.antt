@@ -1,11 +1,11 @@
--- Numbers as text, blanks that set a text to one side, the lines that end in a number, the share, and what a buffer holds with a text put into it.
+-- Numbers as text, the lines that end in a number, the share, and what a buffer holds with a text put into it.
 -- Assumes nothing.
 use mathlib.Core.Bool.{cond}
 use mathlib.Core.List.{List, [], _∷_, _++_}
 use mathlib.Core.Path.{_≡_}
-use Prim.Native.Nat.{ℕ, zero, suc, _+_, _-_, _*_, _/_, _%_, _≤_, _<_}
+use Prim.Native.Nat.{ℕ, zero, suc, _+_, _*_, _/_, _%_, _≤_, _<_}
 use lib.Dec.{ltb}
-use lib.ListN.{length, take, drop, replicate}
+use lib.ListN.{length, take, drop}
 
 -- a digit in ASCII, lower-case from ten on
 abbrev pub digit : ℕ → ℕ
@@ -28,17 +28,6 @@ hex x = digits 16 16 x
 -- a decimal number; a 64-bit number has at most 20 digits
 abbrev pub decimal : ℕ → List ℕ
 decimal x = digits 10 (places 19 x) x
-
--- so many blanks
-abbrev pub blanks : ℕ → List ℕ
-blanks k = replicate k 32
-
--- a text set to the right, and one set to the left, in k places: blanks fill the others
-abbrev pub setRight : ℕ → List ℕ → List ℕ
-setRight k text = blanks (k - length text) ++ text
-
-abbrev pub setLeft : ℕ → List ℕ → List ℕ
-setLeft k text = text ++ blanks (k - length text)
 
 -- a line: a word with a blank behind it, in ASCII, and a decimal number
 abbrev pub numberLine : List ℕ → ℕ → List ℕ

@@ -1,8 +1,8 @@
 // Texts and numbers as text, put into a lent buffer, and the share. Definitions: specs/.
 ghost use mathlib.Core.Path.{_≡_};
-ghost use Prim.Native.Nat.{_+_, _^_, _≤_, _<_};
+ghost use Prim.Native.Nat.{_+_, _≤_, _<_};
 ghost use lib.ListN.{length};
-ghost use Rattle.text.specs.Text.{digit, digits, places, hex, decimal, blanks, setRight, numberLine, refusedLine, shareOf, Puts};
+ghost use Rattle.text.specs.Text.{digit, digits, places, hex, decimal, numberLine, refusedLine, shareOf, Puts};
 
 // Puts a text at a place, and answers the place behind it.
 pub fn put(out: &mut [u8], at: usize, text: &[u8]) -> usize
@@ -10,19 +10,6 @@ pub fn put(out: &mut [u8], at: usize, text: &[u8]) -> usize
     ensures { λ r. ⌜ Puts at (now (text .entry)) (now (out .entry)) (now (out .exit)) r ⌝ }
 {
     at + bytes::copy(text, &mut out[at..])
-}
-
-// Puts so many blanks.
-pub fn put_blanks(out: &mut [u8], at: usize, count: usize) -> usize
-    requires { ⌜ at + count ≤ length (now out) ⌝ }
-    ensures { λ r. ⌜ Puts at (blanks count) (now (out .entry)) (now (out .exit)) r ⌝ }
-{
-    let mut i = 0;
-    while i < count {
-        out[at + i] = b' ';
-        i += 1;
-    }
-    at + count
 }
 
 // A digit in ASCII.
@@ -34,7 +21,7 @@ fn digit_of(n: u64) -> u8
 }
 
 // The last k digits of x, put from the last to the first.
-fn put_digits(out: &mut [u8], at: usize, base: u64, k: usize, x: u64) -> usize
+pub fn put_digits(out: &mut [u8], at: usize, base: u64, k: usize, x: u64) -> usize
     requires { ⌜ (1 ≤ base) × (base ≤ 16) ⌝ }
     requires { ⌜ at + k ≤ length (now out) ⌝ }
     ensures { λ r. ⌜ Puts at (digits base k x) (now (out .entry)) (now (out .exit)) r ⌝ }
@@ -58,7 +45,7 @@ pub fn put_hex(out: &mut [u8], at: usize, x: u64) -> usize
 }
 
 // How many decimal digits x has.
-fn decimal_places(x: u64) -> usize
+pub fn decimal_places(x: u64) -> usize
     ensures { λ r. ⌜ (r ≡ places 19 x) × (r ≤ 20) ⌝ }
 {
     let mut rest = x;
@@ -76,17 +63,6 @@ pub fn put_decimal(out: &mut [u8], at: usize, x: u64) -> usize
     ensures { λ r. ⌜ Puts at (decimal x) (now (out .entry)) (now (out .exit)) r ⌝ }
 {
     put_digits(out, at, 10, decimal_places(x), x)
-}
-
-// A decimal number of at most k places, set to the right in k places.
-pub fn put_right(out: &mut [u8], at: usize, k: usize, x: u64) -> usize
-    requires { ⌜ (1 ≤ k) × (x < 10 ^ k) ⌝ }
-    requires { ⌜ at + k ≤ length (now out) ⌝ }
-    ensures { λ r. ⌜ Puts at (setRight k (decimal x)) (now (out .entry)) (now (out .exit)) r ⌝ }
-{
-    let places = decimal_places(x);
-    let first = put_blanks(out, at, k - places);
-    put_digits(out, first, 10, places, x)
 }
 
 // A line: a word and a decimal number.

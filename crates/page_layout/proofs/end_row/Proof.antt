@@ -2,7 +2,7 @@
 -- Assumes nothing.
 use Prim.Native.Nat.{_+_, _-_}
 use native.Mathlib.Omega.{arith}
-use Rattle.text.proofs.Blanks.{blanks-length}
+use Rattle.padding.proofs.Blanks.{blanks-length}
 use Rattle.text.proofs.Digits.{puts-then}
 use borrow.Author.Needs.{needs}
 use Rattle.page_layout.proofs.end_row.Statement.{statement}

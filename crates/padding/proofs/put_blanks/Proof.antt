@@ -1,4 +1,4 @@
--- `text::put_blanks` meets its contract. The loop's invariant: the blanks so far are put; the measure is the blanks to come.
+-- `padding::put_blanks` meets its contract. The loop's invariant: the blanks so far are put; the measure is the blanks to come.
 -- Assumes nothing.
 use mathlib.Core.List.{List}
 use mathlib.Core.Path.{_≡_, refl}
@@ -6,12 +6,13 @@ use Prim.Native.Nat.{ℕ, _+_, _-_, _≤_}
 use native.Mathlib.Nat.{add-zero}
 use native.Mathlib.Omega.{arith}
 use lib.ListN.{length, length-set}
-use Rattle.text.specs.Text.{blanks, Puts}
+use Rattle.text.specs.Text.{Puts}
+use Rattle.padding.specs.Padding.{blanks}
 use Rattle.text.proofs.Digits.{puts-nothing}
-use Rattle.text.proofs.Blanks.{one-more-blank}
+use Rattle.padding.proofs.Blanks.{one-more-blank}
 use borrow.Author.Needs.{needs}
-use Rattle.text.proofs.put_blanks.Statement.{statement}
-use Rattle.text.proofs.put_blanks.Tie as tie
+use Rattle.padding.proofs.put_blanks.Statement.{statement}
+use Rattle.padding.proofs.put_blanks.Tie as tie
 
 record Blanking (out₀ : List ℕ) (at count : ℕ) (out : List ℕ) (i : ℕ) : Type 0 where
   few : i ≤ count

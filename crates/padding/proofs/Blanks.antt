@@ -7,8 +7,9 @@ use native.Mathlib.Omega.{arith}
 use lib.ListN.{length, set, take, drop, length-append, length-replicate, replicate-append-replicate}
 use lib.Seq.{length-take-le}
 use Rattle.lists.proofs.Front.{front-store}
-use Rattle.text.specs.Text.{places, decimal, blanks, setRight, Puts}
+use Rattle.text.specs.Text.{places, decimal, Puts}
+use Rattle.padding.specs.Padding.{blanks, setRight}
 use Rattle.text.proofs.Digits.{digits-length, places-within}
 
 pub blanks-length : (k : ℕ) → length (blanks k) ≡ k
 blanks-length k = length-replicate {A = ℕ} k 32

@@ -1,15 +1,16 @@
--- `text::put_right` meets its contract: the number has no more digits than there are places, and blanks fill the others.
+-- `padding::put_right` meets its contract: the number has no more digits than there are places, and blanks fill the others.
 -- Assumes nothing.
 use mathlib.Core.Path.{sym, _∙_, subst}
 use Prim.Native.Nat.{ℕ, _-_, _≤_}
 use native.Mathlib.Omega.{arith}
 use denote.Ref.{now}
-use Rattle.text.specs.Text.{places, digits, blanks, Puts}
+use Rattle.text.specs.Text.{places, digits, Puts}
+use Rattle.padding.specs.Padding.{blanks}
 use Rattle.text.proofs.Digits.{digits-length, places-within, puts-then}
-use Rattle.text.proofs.Blanks.{blanks-length}
+use Rattle.padding.proofs.Blanks.{blanks-length}
 use borrow.Author.Needs.{needs}
-use Rattle.text.proofs.put_right.Statement.{statement}
-use Rattle.text.proofs.put_right.Tie as tie
+use Rattle.padding.proofs.put_right.Statement.{statement}
+use Rattle.padding.proofs.put_right.Tie as tie
 
 -- the number fits in its places
 fits : (c : tie.After-decimal-places) → c .decimal-places .result ≤ c .before .before .args .k
