@@ -4,7 +4,7 @@
 //! - `reference`: an unrelated implementation of document 01, which the tests compare the engine with.
 //! - `random`: models, files, bounds and trees from a seed.
 //! - `lent`: what the tests lend to operations, and which answers came up.
-//! - `baseline`: the routes in Rust, which the benchmark compares the engine's speed with.
+//! - `baseline`: the routes and the bench page in Rust, which the benchmark compares the engine's speed with.
 
 mod answer;
 pub mod baseline;
@@ -14,3 +14,8 @@ pub mod random;
 pub mod reference;
 
 pub use answer::Answer;
+
+/// The path of a file of the repository.
+pub fn root(path: &str) -> String {
+    format!("{}/../{path}", env!("CARGO_MANIFEST_DIR"))
+}

@@ -5,9 +5,7 @@ use std::fs;
 use std::path::Path;
 use std::process::Command;
 
-fn root(path: &str) -> String {
-    format!("{}/../{path}", env!("CARGO_MANIFEST_DIR"))
-}
+use harness::root;
 
 fn text(path: &str) -> String {
     fs::read_to_string(root(path)).expect("it is there")

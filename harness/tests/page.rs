@@ -2,7 +2,7 @@
 
 use harness::lent::{Lent, Seen};
 use harness::random::{self, full, Random};
-use harness::{ffi, reference, Answer};
+use harness::{ffi, reference, root, Answer};
 
 /// Makes the page in a buffer of this length, by the engine and by the reference, and compares all they leave.
 fn page_both(random: &mut Random, file: &[u8], length: usize) -> Answer {
@@ -19,7 +19,7 @@ fn page_length(n: usize) -> usize {
 }
 
 fn model_file(name: &str) -> Vec<u8> {
-    std::fs::read(format!("{}/../models/{name}", env!("CARGO_MANIFEST_DIR"))).expect("it is there")
+    std::fs::read(root(&format!("models/{name}"))).expect("it is there")
 }
 
 /// The page of a file that is not refused.

@@ -4,14 +4,10 @@
 use harness::random::{self, full, Random};
 use harness::reference::game::winning_lines;
 use harness::reference::{self, set_of, word_of, Tree};
-use harness::Answer;
+use harness::{root, Answer};
 use std::io::Write;
 use std::process::{Command, Stdio};
 use std::time::Duration;
-
-fn root(path: &str) -> String {
-    format!("{}/../{path}", env!("CARGO_MANIFEST_DIR"))
-}
 
 /// What a program writes for an input that arrives in these pieces.
 fn written(name: &str, pieces: &[&[u8]], pause: Duration) -> String {

@@ -25,9 +25,9 @@ use Rattle.solver.specs.Says.{builtAnswer, BuiltSays}
 use Rattle.solver.specs.declared.Judged.the-variants as judgement
 use Rattle.text.specs.Text.{Puts}
 use Rattle.page_layout.specs.Page.{page}
-use Rattle.bench_page.specs.Says.{pageOf, pageNumber, PageSays}
+use Rattle.bench_page.specs.Says.{pageOf, roomChecks, pageNumber, PageSays}
 use Rattle.bench_page.specs.declared.Paged.the-variants as paged
-use Rattle.bench_page.proofs.Pages.{roomChecks, shown-below, file-page-length, page-number}
+use Rattle.bench_page.proofs.Pages.{shown-below, file-page-length, page-number}
 
 -- the set that judging found is the one that the page shows; all is the mask of all lines
 module _ (file : List ℕ) {all set count : ℕ} (mask : all ≡ full (linesIn file)) (says : BuiltSays file 0 all (judgement.Found set count)) where

@@ -1,13 +1,12 @@
 -- The page of a file that is accepted: it has n + 1 rows of 41 bytes, and it shows the nested fixpoint. With room for it, only the file is turned down.
 -- Assumes nothing.
-use mathlib.Core.List.{List, [], _∷_, _++_}
+use mathlib.Core.List.{List, _++_}
 use mathlib.Core.Path.{_≡_, refl, _∙_, ap}
 use Prim.Native.Nat.{ℕ, zero, suc, _+_, _*_, _^_, _≤_, _<_}
 use native.Mathlib.Omega.{arith}
 use borrow.Author.Tests.{le-ltb}
-use lib.Dec.{ltb}
 use lib.ListN.{length}
-use Rattle.answers.specs.Check.{Check, _if_, firstOf}
+use Rattle.answers.specs.Check.{Check, firstOf}
 use Rattle.answers.proofs.Checks.{first-before, before-passes}
 use Rattle.sets.specs.Set.{full}
 use Rattle.sets.proofs.Range.{full-below}
@@ -22,11 +21,7 @@ use Rattle.solver.specs.Checks.{builtNumber}
 use Rattle.solver.specs.Says.{builtAnswer}
 use Rattle.page_layout.specs.Page.{page}
 use Rattle.page_layout.proofs.Pages.{page-length}
-use Rattle.bench_page.specs.Says.{pageOf, pageNumber}
-
--- the checks behind those of judging
-abbrev pub roomChecks : List ℕ → ℕ → List Check
-roomChecks file room = 12 if ltb room (length (pageOf file)) ∷ []
+use Rattle.bench_page.specs.Says.{pageOf, roomChecks, pageNumber}
 
 module _ (file : List ℕ) (accepted-file : fileNumber file ≡ 0) where
   -- what is shown is judged

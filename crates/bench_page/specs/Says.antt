@@ -20,9 +20,13 @@ use Rattle.bench_page.specs.declared.Paged.the-variants as paged
 unfoldable pub pageOf : List ℕ → List ℕ
 pageOf file = page (decode file) (builtAnswer file 0 (full (linesIn file)) .set)
 
--- the checks of judging by built-in trees, then 12: a buffer shorter than the page
+-- 12: a buffer shorter than the page
+abbrev pub roomChecks : List ℕ → ℕ → List Check
+roomChecks file room = 12 if ltb room (length (pageOf file)) ∷ []
+
+-- the checks of judging by built-in trees from no line to all lines, then 12
 abbrev pub pageChecks : List ℕ → ℕ → List Check
-pageChecks file room = boundChecks file 0 (full (linesIn file)) ++ (12 if ltb room (length (pageOf file)) ∷ [])
+pageChecks file room = boundChecks file 0 (full (linesIn file)) ++ roomChecks file room
 
 -- the number with which making the page in a buffer of this length refuses, or 0
 unfoldable pub pageNumber : List ℕ → ℕ → ℕ
