@@ -31,6 +31,7 @@ pub struct Seen(BTreeMap<u64, usize>);
 
 impl Seen {
     pub fn note(&mut self, answer: Answer) {
+        assert_ne!(answer.number, 8, "8 is retired");
         *self.0.entry(answer.number).or_default() += 1;
     }
 

@@ -202,7 +202,7 @@ impl Subject {
         let mut random = Random::new(seed);
         let all: Vec<bool> = (0..lines).map(|i| i % 2 == 1).collect();
         let signs = random::alternating(levels, false);
-        Subject::new(name, random::model_of_kinds(&mut random, &all, &signs, density))
+        Subject::new(name, random::model_of_kinds(&mut random, &all, &signs, density, 0))
     }
 
     /// Two or three operands a line.
@@ -217,7 +217,7 @@ impl Subject {
 
     /// A model of the lower bound, where plain rounds are many.
     fn hard(seed: u64, lines: usize, levels: usize) -> Subject {
-        Subject::new("hard", random::hard_model(&mut Random::new(seed), lines, levels / 2))
+        Subject::new("hard", random::hard_model(&mut Random::new(seed), lines, levels / 2, 0))
     }
 
     /// The most queries that judging may make.
@@ -367,7 +367,8 @@ impl Deepest {
             Deepest::Built => 64,
         };
         let signs = random::alternating(8, false);
-        let file = random::model(&mut Random::new(7), lines, &signs, Density::Few).file();
+        let all = vec![false; lines];
+        let file = random::model_of_kinds(&mut Random::new(7), &all, &signs, Density::Few, 0).file();
         match self {
             Deepest::Lent => judge.lent(&file, 0, 1, &[4; 1023], &[4; 1023]).count == 1024 * 1024,
             Deepest::Built => judge.built(&file, 0, u64::MAX).count == 2645 * 2645,

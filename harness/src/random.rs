@@ -48,7 +48,7 @@ pub fn full(n: usize) -> u64 {
 
 // ---- models ----
 
-/// How many operands a line has.
+/// How many operands a line has that is not idle.
 #[derive(Clone, Copy, Debug, PartialEq, Eq)]
 pub enum Density {
     /// One or two.
@@ -74,9 +74,28 @@ pub fn signs(random: &mut Random, d: usize) -> Vec<bool> {
     }
 }
 
-/// Operands of line i, one or more.
-fn operands(random: &mut Random, i: usize, n: usize, d: usize, density: Density) -> Vec<Operand> {
+/// How many lines of a hundred a model leaves without operands: none in two models of five.
+fn idle_share(random: &mut Random) -> usize {
+    if random.chance(40) {
+        0
+    } else {
+        random.between(5, 40)
+    }
+}
+
+/// Operands of line i: none with a chance of `idle` in a hundred, else one or more.
+fn operands(
+    random: &mut Random,
+    i: usize,
+    n: usize,
+    d: usize,
+    density: Density,
+    idle: usize,
+) -> Vec<Operand> {
     let mut operands = Vec::new();
+    if idle > 0 && random.chance(idle) {
+        return operands;
+    }
     let wanted = match density {
         Density::Few => random.between(1, 2),
         Density::Several => random.between(2, 3),
@@ -101,7 +120,7 @@ fn operands(random: &mut Random, i: usize, n: usize, d: usize, density: Density)
     operands
 }
 
-/// A model of n lines with these signs.
+/// A model of n lines with these signs, some lines idle.
 pub fn model(random: &mut Random, n: usize, greatest: &[bool], density: Density) -> Model {
     // The share of "all" lines; now and then all lines are of one kind.
     let share = match random.between(0, 19) {
@@ -110,13 +129,20 @@ pub fn model(random: &mut Random, n: usize, greatest: &[bool], density: Density)
         _ => random.between(30, 70),
     };
     let all: Vec<bool> = (0..n).map(|_| random.chance(share)).collect();
-    model_of_kinds(random, &all, greatest, density)
+    let idle = idle_share(random);
+    model_of_kinds(random, &all, greatest, density, idle)
 }
 
-/// A model with these kinds of its lines and these signs.
-pub fn model_of_kinds(random: &mut Random, all: &[bool], greatest: &[bool], density: Density) -> Model {
+/// A model with these kinds of its lines and these signs, each line idle with a chance of `idle` in a hundred.
+pub fn model_of_kinds(
+    random: &mut Random,
+    all: &[bool],
+    greatest: &[bool],
+    density: Density,
+    idle: usize,
+) -> Model {
     let (n, d) = (all.len(), greatest.len());
-    let operands = (0..n).map(|i| operands(random, i, n, d, density)).collect();
+    let operands = (0..n).map(|i| operands(random, i, n, d, density, idle)).collect();
     Model { greatest: greatest.to_vec(), all: all.to_vec(), operands }
 }
 
@@ -134,8 +160,9 @@ pub fn density(random: &mut Random, n: usize) -> Density {
 }
 
 /// A model of n lines and 2 × h levels on which the routes need many steps: the lower bound's model for a random tree,
-/// or its dual, beside lines with few operands. The lines stand in random order.
-pub fn hard_model(random: &mut Random, n: usize, h: usize) -> Model {
+/// or its dual, beside lines with few operands, each idle with a chance of `idle` in a hundred. The lines stand in
+/// random order.
+pub fn hard_model(random: &mut Random, n: usize, h: usize, idle: usize) -> Model {
     let leaves = random.between(n.div_ceil(2), n);
     let gaps = gaps(random, h, leaves - 1);
     let mut model = lower_bound_model(&Tree::from_gaps(h, &gaps).expect("the gaps are the tree's"));
@@ -144,7 +171,7 @@ pub fn hard_model(random: &mut Random, n: usize, h: usize) -> Model {
     }
     for i in leaves..n {
         model.all.push(random.chance(50));
-        model.operands.push(operands(random, i, n, 2 * h, Density::Few));
+        model.operands.push(operands(random, i, n, 2 * h, Density::Few, idle));
     }
     let mut place: Vec<usize> = (0..n).collect();
     for i in (1..n).rev() {
@@ -163,7 +190,8 @@ pub fn hard_model(random: &mut Random, n: usize, h: usize) -> Model {
 /// A model of n lines and d levels of any of these sorts.
 pub fn any_model(random: &mut Random, n: usize, d: usize) -> Model {
     if d.is_multiple_of(2) && random.chance(25) {
-        return hard_model(random, n, d / 2);
+        let idle = idle_share(random);
+        return hard_model(random, n, d / 2, idle);
     }
     let signs = signs(random, d);
     let density = density(random, n);
@@ -343,10 +371,6 @@ pub fn damage_file(random: &mut Random, file: &mut Vec<u8>, n: usize, d: usize, 
             let line = random.between(n, 63);
             file[word + line / 8] |= 1 << (line % 8);
         }
-        8 => {
-            let line = words_at + 8 * d * random.between(0, n - 1);
-            file[line..line + 8 * d].fill(0);
-        }
         _ => {}
     }
 }
@@ -354,7 +378,7 @@ pub fn damage_file(random: &mut Random, file: &mut Vec<u8>, n: usize, d: usize, 
 /// Damages a file of n lines and d levels in one to three ways.
 pub fn damage_file_often(random: &mut Random, file: &mut Vec<u8>, n: usize, d: usize) {
     let ways = random.between(1, 3);
-    let mut numbers: Vec<u64> = (0..ways).map(|_| random.between(1, 8) as u64).collect();
+    let mut numbers: Vec<u64> = (0..ways).map(|_| random.between(1, 7) as u64).collect();
     numbers.sort();
     numbers.dedup();
     for number in numbers.into_iter().rev() {
@@ -372,7 +396,7 @@ pub struct Written {
 
 /// What can be wrong with it, by the number of its refusal; a buffer too short is not among these. Of several damages
 /// the last of these goes last.
-pub const WRITTEN_DAMAGES: [u64; 6] = [2, 3, 6, 7, 8, 13];
+pub const WRITTEN_DAMAGES: [u64; 5] = [2, 3, 6, 7, 13];
 
 /// Damages what is to be written so that refusal `number` applies; 7 cannot apply to 64 lines.
 pub fn damage_written(random: &mut Random, written: &mut Written, number: u64) {
@@ -389,10 +413,6 @@ pub fn damage_written(random: &mut Random, written: &mut Written, number: u64) {
             }
         }
         7 if n < 64 => parts.words[random.between(0, n * d - 1)] |= 1 << random.between(n, 63),
-        8 => {
-            let line = d * random.between(0, n - 1);
-            parts.words[line..line + d].fill(0);
-        }
         13 => match random.between(0, 5) {
             0 => parts.signs.push(0),
             1 => parts.kinds.push(1),

@@ -2,13 +2,14 @@
 
 use harness::baseline::page::page;
 use harness::baseline::{by_levels, whole};
+use harness::lent::Seen;
 use harness::random::{self, Random};
 use harness::reference;
 
 #[test]
 fn the_baselines_judge_as_the_reference_does() {
     let mut random = Random::new(901);
-    let mut seen = [0; 12];
+    let mut seen = Seen::default();
     for _ in 0..5000 {
         let (n, d) = (random.between(1, 64), random.between(1, 8));
         let (n, d) = if random.chance(80) { (n.min(8), d.min(3)) } else { (n, d) };
@@ -32,12 +33,10 @@ fn the_baselines_judge_as_the_reference_does() {
             assert_eq!(whole::built(file, a, b), built, "{case:?}");
             assert_eq!(by_levels::built(file, a, b), built, "{case:?}");
         }
-        seen[lent.number as usize] += 1;
-        seen[plain.number as usize] += 1;
+        seen.note(lent);
+        seen.note(plain);
     }
-    for (number, &times) in seen.iter().enumerate() {
-        assert!(times >= 50, "number {number} came up {times} times only");
-    }
+    seen.assert_each(&[0, 1, 2, 3, 4, 5, 6, 7, 9, 10, 11], 50);
 }
 
 #[test]

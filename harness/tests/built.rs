@@ -1,5 +1,6 @@
 //! Judging by built-in trees against the reference.
 
+use harness::lent::Seen;
 use harness::random::{self, full, Case, Density, Random};
 use harness::reference::game::winning_lines;
 use harness::reference::nested::nested;
@@ -79,7 +80,7 @@ fn lower_bound_models_are_judged_too() {
     let mut random = Random::new(504);
     for n in [1, 2, 3, 4, 7, 8, 15, 16, 31, 32, 63, 64] {
         for h in 1..=4 {
-            let case = Case::new(random::hard_model(&mut random, n, h), (0, full(n)));
+            let case = Case::new(random::hard_model(&mut random, n, h, 20), (0, full(n)));
             let (a, b) = case.bounds();
             let set = winning_lines(&case.model, &a, &b);
             let expected = Answer::judged(word_of(&set), queries(&case.model));
@@ -115,7 +116,7 @@ fn equal_bounds_are_the_set() {
 #[test]
 fn judging_by_built_in_trees_is_refused_in_order() {
     let mut random = Random::new(507);
-    let mut seen = [0; 10];
+    let mut seen = Seen::default();
     for _ in 0..20_000 {
         let (n, d) = (random.between(1, 64), random.between(1, 8));
         let (n, d) = if random.chance(70) { (n.min(6), d.min(3)) } else { (n, d) };
@@ -126,9 +127,7 @@ fn judging_by_built_in_trees_is_refused_in_order() {
         }
         let answer = judge(&case);
         assert_eq!(answer, reference::built(&case.file, case.a, case.b), "{case:?}");
-        seen[answer.number as usize] += 1;
+        seen.note(answer);
     }
-    for (number, &times) in seen.iter().enumerate() {
-        assert!(times >= 300, "number {number} came up {times} times only");
-    }
+    seen.assert_each(&[0, 1, 2, 3, 4, 5, 6, 7, 9], 300);
 }

@@ -73,7 +73,7 @@ fn short_slices_are_refused_when_reading() {
 fn each_damage_of_a_file_has_its_number() {
     let mut random = Random::new(203);
     for _ in 0..300 {
-        for number in 1..=8 {
+        for number in 1..=7 {
             // Refusal 7 needs a line of n or more, and so fewer than 64 lines.
             let (n, d) = (random.between(1, 63), random.between(1, 8));
             let mut file = random::any_model(&mut random, n, d).file();
@@ -99,7 +99,7 @@ fn the_first_of_several_refusals_answers_when_reading() {
         };
         seen.note(read_both(&mut random, &file, lengths));
     }
-    seen.assert_each(&[1, 2, 3, 4, 5, 6, 7, 8], 500);
+    seen.assert_each(&[1, 2, 3, 4, 5, 6, 7], 500);
 }
 
 #[test]
@@ -122,7 +122,7 @@ fn bytes_at_random_are_read_as_the_reference_does() {
         }
         seen.note(read_both(&mut random, &file, [8, 64, 512]));
     }
-    seen.assert_each(&[0, 1, 2, 3, 5, 6, 7, 8], 20);
+    seen.assert_each(&[0, 1, 2, 3, 5, 6, 7], 20);
 }
 
 #[test]
@@ -172,7 +172,7 @@ fn the_first_of_several_refusals_answers_when_writing() {
         let length = if random.chance(50) { random.between(0, file_length(n, d)) } else { 4184 };
         seen.note(write_both(&mut random, &written, length));
     }
-    seen.assert_each(&[0, 2, 3, 13, 6, 7, 8, 12], 500);
+    seen.assert_each(&[0, 2, 3, 13, 6, 7, 12], 500);
 }
 
 #[test]

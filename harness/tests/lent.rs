@@ -1,5 +1,6 @@
 //! Judging by lent trees against the reference.
 
+use harness::lent::Seen;
 use harness::random::{self, full, Case, Random};
 use harness::reference::nested::nested;
 use harness::reference::tree::lower_bound_model;
@@ -211,7 +212,7 @@ fn height_0_has_one_leaf_only() {
 #[test]
 fn judging_by_lent_trees_is_refused_in_order() {
     let mut random = Random::new(610);
-    let mut seen = [0; 12];
+    let mut seen = Seen::default();
     for _ in 0..20_000 {
         let (n, d) = (random.between(1, 64), random.between(1, 8));
         let (n, d) = if random.chance(70) { (n.min(6), d.min(3)) } else { (n, d) };
@@ -223,9 +224,7 @@ fn judging_by_lent_trees_is_refused_in_order() {
         if random.chance(30) {
             v = random::bad_tree(&mut random, case.model.greatest_levels());
         }
-        seen[judge_both(&case, &u, &v).number as usize] += 1;
+        seen.note(judge_both(&case, &u, &v));
     }
-    for number in [0, 1, 2, 3, 4, 5, 6, 7, 8, 9, 11] {
-        assert!(seen[number] >= 300, "number {number} came up {} times only", seen[number]);
-    }
+    seen.assert_each(&[0, 1, 2, 3, 4, 5, 6, 7, 9, 11], 300);
 }

@@ -1,5 +1,6 @@
 //! Judging by plain rounds against the reference.
 
+use harness::lent::Seen;
 use harness::random::{self, full, Case, Random};
 use harness::reference::game::winning_lines;
 use harness::reference::nested::nested;
@@ -101,7 +102,7 @@ fn equal_bounds_are_the_set() {
 #[test]
 fn plain_judging_is_refused_in_order() {
     let mut random = Random::new(405);
-    let mut seen = [0; 11];
+    let mut seen = Seen::default();
     for _ in 0..20_000 {
         let (n, d) = (random.between(1, 64), random.between(1, 8));
         let (n, d) = if random.chance(70) { (n.min(6), d.min(3)) } else { (n, d) };
@@ -109,11 +110,9 @@ fn plain_judging_is_refused_in_order() {
         let ceiling = random.between(0, 60) as u64;
         let answer = ffi::plain(&case.file, case.a, case.b, ceiling);
         assert_eq!(answer, reference::plain(&case.file, case.a, case.b, ceiling), "{ceiling} {case:?}");
-        seen[answer.number as usize] += 1;
+        seen.note(answer);
         let nothing = ffi::plain(&case.file, case.a, case.b, 0);
         assert_eq!(nothing, reference::plain(&case.file, case.a, case.b, 0), "{case:?}");
     }
-    for (number, &times) in seen.iter().enumerate() {
-        assert!(times >= 300, "number {number} came up {times} times only");
-    }
+    seen.assert_each(&[0, 1, 2, 3, 4, 5, 6, 7, 9, 10], 300);
 }

@@ -83,7 +83,7 @@ fn every_sample_model_is_judged_and_has_its_page() {
             seen += 1;
         }
     }
-    assert_eq!(seen, 5);
+    assert_eq!(seen, 6);
 }
 
 #[test]
@@ -94,6 +94,23 @@ fn the_sample_models_show_what_their_note_says() {
     assert_eq!(text("models/one-line.model"), "plain 0000000000000000 1\ntree 0000000000000000 1\nshare 0\n");
     assert!(text("models/incident.model").contains("tree 0000000000000002 9\nshare 333\n"));
     assert!(text("models/largest.model").starts_with("plain refused 10\n"));
+    assert_eq!(
+        text("models/tripped.model"),
+        "plain 0000000000000007 6\ntree 0000000000000007 16\nshare 750\n"
+    );
+}
+
+#[test]
+fn loops_in_place_of_missing_successors_are_judged_as_the_note_says() {
+    let file = std::fs::read(root("models/tripped.model")).expect("it is there");
+    let looped = |line: usize, level: usize| {
+        let mut model = reference::Model::from_file(&file).expect("it is a model");
+        assert!(model.is_idle(line));
+        model.operands[line].push(reference::Operand { level: level - 1, line });
+        judged(&model.file())
+    };
+    assert!(looped(2, 1).contains("tree 0000000000000000 16\n"));
+    assert!(looped(3, 2).contains("tree 000000000000000f 16\n"));
 }
 
 #[test]

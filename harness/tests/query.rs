@@ -1,5 +1,6 @@
 //! One query against the reference.
 
+use harness::lent::Seen;
 use harness::random::{self, full, Random};
 use harness::{ffi, reference};
 
@@ -50,7 +51,7 @@ fn a_single_operand_is_the_bit_it_selects() {
 #[test]
 fn queries_are_refused_in_order() {
     let mut random = Random::new(303);
-    let mut seen = [0; 14];
+    let mut seen = Seen::default();
     for _ in 0..20_000 {
         let (n, d) = (random.between(1, 64), random.between(1, 8));
         let (n, d) = if random.chance(70) { (n.min(6), d.min(3)) } else { (n, d) };
@@ -67,9 +68,7 @@ fn queries_are_refused_in_order() {
         }
         let answer = ffi::query(&case.file, &xs);
         assert_eq!(answer, reference::query(&case.file, &xs), "{xs:?} {:?}", case.file);
-        seen[answer.number as usize] += 1;
+        seen.note(answer);
     }
-    for number in [0, 1, 2, 3, 4, 5, 6, 7, 8, 9, 13] {
-        assert!(seen[number] >= 300, "number {number} came up {} times only", seen[number]);
-    }
+    seen.assert_each(&[0, 1, 2, 3, 4, 5, 6, 7, 13, 9], 300);
 }

@@ -1,4 +1,4 @@
-//! Document 01's samples, with the numbers that it gives.
+//! Document 01's samples, with the numbers that it gives, and those of the requests.
 
 use harness::random::{full, Density, Random};
 use harness::reference::{self, Model, Operand};
@@ -67,6 +67,25 @@ fn p_and_q_by_small_trees() {
 fn one_line_of_itself() {
     assert_eq!(ffi::plain(&one_line(false), 0, 1, 1), Answer::judged(0, 1));
     assert_eq!(ffi::plain(&one_line(true), 0, 1, 1), Answer::judged(1, 1));
+}
+
+/// Four lines at one level: line 0 is any of none, line 1 all of none, line 2 any of lines 0 and 2, line 3 all of lines 1 and 3.
+fn dead_ends(greatest: bool) -> Vec<u8> {
+    let operands = [&[][..], &[], &[0, 2], &[1, 3]];
+    let operands =
+        operands.map(|lines| lines.iter().map(|&line| Operand { level: 0, line }).collect()).to_vec();
+    Model { greatest: vec![greatest], all: vec![false, true, false, true], operands }.file()
+}
+
+#[test]
+fn lines_without_operands() {
+    // Least: no line, then line 1, which a second round shows again. Greatest: all lines, then all but line 0, and again.
+    for (greatest, set) in [(false, 2), (true, 14)] {
+        let file = dead_ends(greatest);
+        assert_eq!(ffi::plain(&file, 0, 15, 2), Answer::judged(set, 2));
+        assert_eq!(ffi::plain(&file, 0, 15, 1), Answer::refused(10));
+        assert_eq!(ffi::built(&file, 0, 15), Answer::judged(set, 4));
+    }
 }
 
 #[test]

@@ -11,7 +11,7 @@ use borrow.Author.Tests.{ltb-true, ltb-false, eqb-true, eqb-false, eq-eqb, not-f
 use Rattle.answers.specs.Answer.{Answer, refusal, numberOf}
 use Rattle.answers.specs.Check.{Check, firstOf, unless, outside}
 use Rattle.answers.specs.declared.Refusal.{Refusal}
-use Rattle.answers.specs.declared.Refusal.the-variants.{HeaderShort, Lines, Levels, Offset, FileLength, SignOrKind, StraySelection, NoOperand, Bounds, Ceiling, Tree, Room, SliceLength}
+use Rattle.answers.specs.declared.Refusal.the-variants.{HeaderShort, Lines, Levels, Offset, FileLength, SignOrKind, StraySelection, Bounds, Ceiling, Tree, Room, SliceLength}
 
 -- none of the checks applies
 abbrev pub Passes : List Check → Type 0
@@ -97,9 +97,23 @@ number-positive Offset = lit< tt
 number-positive FileLength = lit< tt
 number-positive SignOrKind = lit< tt
 number-positive StraySelection = lit< tt
-number-positive NoOperand = lit< tt
 number-positive Bounds = lit< tt
 number-positive Ceiling = lit< tt
 number-positive Tree = lit< tt
 number-positive Room = lit< tt
 number-positive SliceLength = lit< tt
+
+-- 8 is the number of no refusal (request W2)
+pub eight-retired : (r : Refusal) → numberOf r ≡ 8 → ⊥
+eight-retired HeaderShort h = omega arith
+eight-retired Lines h = omega arith
+eight-retired Levels h = omega arith
+eight-retired Offset h = omega arith
+eight-retired FileLength h = omega arith
+eight-retired SignOrKind h = omega arith
+eight-retired StraySelection h = omega arith
+eight-retired Bounds h = omega arith
+eight-retired Ceiling h = omega arith
+eight-retired Tree h = omega arith
+eight-retired Room h = omega arith
+eight-retired SliceLength h = omega arith

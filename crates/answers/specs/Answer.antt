@@ -3,9 +3,9 @@
 -- Assumes nothing.
 use Prim.Native.Nat.{ℕ}
 use Rattle.answers.specs.declared.Refusal.{Refusal}
-use Rattle.answers.specs.declared.Refusal.the-variants.{HeaderShort, Lines, Levels, Offset, FileLength, SignOrKind, StraySelection, NoOperand, Bounds, Ceiling, Tree, Room, SliceLength}
+use Rattle.answers.specs.declared.Refusal.the-variants.{HeaderShort, Lines, Levels, Offset, FileLength, SignOrKind, StraySelection, Bounds, Ceiling, Tree, Room, SliceLength}
 
--- document 01's number of a refusal
+-- document 01's number of a refusal; 8 is retired (request W2)
 abbrev pub numberOf : Refusal → ℕ
 numberOf HeaderShort = 1
 numberOf Lines = 2
@@ -14,7 +14,6 @@ numberOf Offset = 4
 numberOf FileLength = 5
 numberOf SignOrKind = 6
 numberOf StraySelection = 7
-numberOf NoOperand = 8
 numberOf Bounds = 9
 numberOf Ceiling = 10
 numberOf Tree = 11

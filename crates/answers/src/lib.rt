@@ -2,7 +2,7 @@
 ghost use mathlib.Core.Path.{_≡_};
 ghost use Rattle.answers.specs.Answer.{numberOf};
 
-// Why an operation refuses. In document 01 each is a number, which `numberOf` in specs/ gives.
+// Why an operation refuses. In document 01 each is a number, which `numberOf` in specs/ gives. Its 8, a line without operands, is retired (request W2).
 pub enum Refusal {
     // Under 16 bytes.
     HeaderShort,
@@ -16,8 +16,6 @@ pub enum Refusal {
     SignOrKind,
     // A selected line that is none of the model's.
     StraySelection,
-    // A line without operands.
-    NoOperand,
     // A set with a line that is none of the model's, or a lower bound not within its upper bound.
     Bounds,
     // More queries than the ceiling allows.
@@ -40,7 +38,6 @@ pub fn number(r: Refusal) -> u64
         Refusal::FileLength => 5,
         Refusal::SignOrKind => 6,
         Refusal::StraySelection => 7,
-        Refusal::NoOperand => 8,
         Refusal::Bounds => 9,
         Refusal::Ceiling => 10,
         Refusal::Tree => 11,

@@ -1,6 +1,5 @@
--- What an accepted file is, for those who use it: what holds of every sign, kind, word and line is said at each index below their number.
+-- What an accepted file is, for those who use it: what holds of every sign, kind and word is said at each index below their number.
 -- Assumes nothing.
-use mathlib.Core.Bool.{true}
 use mathlib.Core.List.{List, _++_}
 use mathlib.Core.Path.{_≡_, refl, _∙_, ap, ap₂}
 use mathlib.Mathlib.Data.Bool.Basic.{or-eq-false-eq-eq-false-and-eq-false as neither}
@@ -14,8 +13,7 @@ use borrow.Author.Tests.{ltb-false, eqb-true, not-false}
 use Rattle.answers.specs.Check.{Check, firstOf}
 use Rattle.answers.proofs.Checks.{Passes, passes-both, none-first, after-none, inside}
 use Rattle.model.specs.File.{linesIn, levelsIn, fileLength, sections, decode}
-use Rattle.system.specs.Query.{wordsOf}
-use Rattle.model.specs.Checks.{some, strays, idle, contentChecks}
+use Rattle.model.specs.Checks.{some, strays, contentChecks}
 use Rattle.checker.specs.Checks.{headerChecks, fileChecks, fileNumber, checkAnswer}
 use Rattle.model.specs.Says.{readingAnswer}
 use Rattle.answers.specs.declared.Refusal.{Refusal}
@@ -25,7 +23,7 @@ use Rattle.model.specs.declared.layout.Reading.the-variants as reading
 use Rattle.sets.specs.Set.{full}
 use Rattle.sets.proofs.Order.{within-le}
 use Rattle.sets.proofs.Range.{full-below}
-use Rattle.model.proofs.Searches.{false-below, false-some}
+use Rattle.model.proofs.Searches.{false-some}
 use Rattle.numbers.proofs.Codec.{words-length}
 use Rattle.model.proofs.Refusals.{AcceptedAs, RefusedAs, accepted-as, refused-as}
 
@@ -67,7 +65,6 @@ pub record Accepted (file : List ℕ) : Type 0 where
   pub signs : (k : ℕ) → k < levelsIn file → getD (decode file .signs) k 0 ≤ 1
   pub kinds : (i : ℕ) → i < linesIn file → getD (decode file .kinds) i 0 ≤ 1
   pub words : (j : ℕ) → j < linesIn file * levelsIn file → getD (decode file .words) j 0 < 2 ^ linesIn file
-  pub operands : (i : ℕ) → i < linesIn file → some (ltb 0) (wordsOf (decode file) i) ≡ true
 
 pub accepted : (file : List ℕ) → fileNumber file ≡ 0 → Accepted file
 unfolding fileNumber decode
@@ -83,7 +80,6 @@ accepted file h =
       words = λ j l.
           let within = not-false _ (false-some (strays (linesIn file)) (decode file .words) (content .1 .0) j (rw (count-words file) l)) in
           full-below (linesIn file) _ (within-le _ _ within);
-      operands = λ i l. not-false _ (false-below (idle (decode file)) (linesIn file) (content .1 .1 .0) i l);
     }
 
 -- the system of the counts that are handed back, and what is asked of them wherever the file is used

@@ -26,7 +26,7 @@ layoutChecks file =
 abbrev pub headerChecks : List ℕ → List Check
 headerChecks file = 1 if ltb (length file) 16 ∷ (countChecks (linesIn file) (levelsIn file) ++ layoutChecks file)
 
--- 1 to 8: what a file is turned down for, whatever it is to be used for
+-- 1 to 7: what a file is turned down for, whatever it is to be used for
 abbrev pub fileChecks : List ℕ → List Check
 fileChecks file = headerChecks file ++ contentChecks (decode file)
 

@@ -1,12 +1,11 @@
-// Checking a file: document 01's refusals 1 to 8. Definitions: specs/.
+// Checking a file: document 01's refusals 1 to 7. Definitions: specs/.
 ghost use mathlib.Core.Path.{_≡_};
 ghost use Prim.Native.Nat.{_+_, _*_, _≤_};
-ghost use lib.Dec.{ltb};
 ghost use lib.ListN.{length, drop};
 ghost use Rattle.answers.specs.Check.{firstOf, unless};
-ghost use Rattle.model.specs.File.{fileLength, wordsAt, linesIn, levelsIn, sections};
+ghost use Rattle.model.specs.File.{fileLength, wordsAt, linesIn, levelsIn};
 ghost use Rattle.numbers.specs.Numbers.{wordsFrom};
-ghost use Rattle.model.specs.Checks.{some, someBelow, strays, idle};
+ghost use Rattle.model.specs.Checks.{some, strays};
 ghost use Rattle.checker.specs.Checks.{headerChecks, checkAnswer};
 ghost use Rattle.model.specs.Says.{readingAnswer, sized};
 use answers::Refusal;
@@ -45,41 +44,6 @@ fn stray_selection(file: &[u8], m: Model) -> bool
     stray
 }
 
-// Whether one of the d words from an offset on selects a line.
-fn has_operand(file: &[u8], at: usize, d: usize) -> bool
-    requires { ⌜ (d ≤ 8) × (at + 8 * d ≤ length (now file)) ⌝ }
-    ensures { λ r. ⌜ r ≡ some (ltb 0) (wordsFrom d (drop at (now (file .entry)))) ⌝ }
-{
-    let mut k = 0;
-    while k < d {
-        if 0 < u64_at(file, at + 8 * k) {
-            return true;
-        }
-        k += 1;
-    }
-    false
-}
-
-// Whether a line has no operand.
-fn idle_line(file: &[u8], m: Model) -> bool
-    requires { ⌜ (m .lines ≤ 64) × (m .levels ≤ 8) ⌝ }
-    requires { ⌜ fileLength (m .lines) (m .levels) ≤ length (now file) ⌝ }
-    ensures { λ r. ⌜ r ≡ someBelow (m .lines) (idle (sections (m .lines) (m .levels) (now (file .entry)))) ⌝ }
-{
-    let n = m.lines;
-    let d = m.levels;
-    let mut at = m.words_at();
-    let mut i = 0;
-    while i < n {
-        if !has_operand(file, at, d) {
-            return true;
-        }
-        at += 8 * d;
-        i += 1;
-    }
-    false
-}
-
 // Refusals 1 to 5, or the counts.
 fn check_header(file: &[u8]) -> Reading
     ensures { λ r. ⌜ readingAnswer r ≡ unless (firstOf (headerChecks (now (file .entry)))) (sized (linesIn (now (file .entry))) (levelsIn (now (file .entry)))) ⌝ }
@@ -106,7 +70,7 @@ fn check_header(file: &[u8]) -> Reading
     counts
 }
 
-// The two counts of a file that is a model's, or the first of document 01's refusals 1 to 8 that applies.
+// The two counts of a file that is a model's, or the first of document 01's refusals 1 to 7 that applies.
 pub fn check(file: &[u8]) -> Reading
     ensures { λ r. ⌜ readingAnswer r ≡ checkAnswer (now (file .entry)) ⌝ }
 {
@@ -121,9 +85,6 @@ pub fn check(file: &[u8]) -> Reading
     }
     if stray_selection(file, m) {
         return Reading::Refused(Refusal::StraySelection);
-    }
-    if idle_line(file, m) {
-        return Reading::Refused(Refusal::NoOperand);
     }
     counts
 }

@@ -9,10 +9,10 @@ use lib.Seq.{take-add, drop-drop}
 use Rattle.system.specs.Query.{wordsOf}
 use Rattle.numbers.specs.Numbers.{numberAt, wordsFrom}
 use Rattle.model.specs.File.{signsAt, wordsAt, sections}
-use Rattle.model.specs.Checks.{some, someBelow}
+use Rattle.model.specs.Checks.{some}
 use Rattle.numbers.proofs.Codec.{words-length, words-part, word-at}
 use Rattle.model.proofs.Sizes.{line-fits}
-use Rattle.model.proofs.Searches.{some-index, some-append, below-same}
+use Rattle.model.proofs.Searches.{someBelow, some-index, some-append, below-same}
 
 pub words-of : (n d : ℕ) (file : List ℕ) (i : ℕ) → i < n
     → wordsOf (sections n d file) i ≡ wordsFrom d (drop (wordsAt n d + 8 * (i * d)) file)

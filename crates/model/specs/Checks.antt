@@ -2,39 +2,28 @@
 -- Assumes nothing.
 use mathlib.Core.Bool.{Bool, false, not, _||_}
 use mathlib.Core.List.{List, [], _∷_}
-use Prim.Native.Nat.{ℕ, zero, suc}
+use Prim.Native.Nat.{ℕ}
 use lib.Dec.{ltb}
 use Rattle.answers.specs.Check.{Check, _if_, outside}
 use Rattle.sets.specs.Set.{full, isWithin}
 use Rattle.system.specs.System.{System}
-use Rattle.system.specs.Query.{wordsOf}
 
 -- whether p holds of one of some numbers
 abbrev pub some : (ℕ → Bool) → List ℕ → Bool
 some p [] = false
 some p (x ∷ xs) = p x || some p xs
 
--- whether p holds of a number below n
-abbrev pub someBelow : ℕ → (ℕ → Bool) → Bool
-someBelow zero p = false
-someBelow (suc n) p = p n || someBelow n p
-
 -- a set that has a line of n or more
 abbrev pub strays : ℕ → ℕ → Bool
 strays n x = not (isWithin x (full n))
-
--- a line without operands: none of its words selects one
-abbrev pub idle : System → ℕ → Bool
-idle m i = not (some (ltb 0) (wordsOf m i))
 
 -- 2 and 3: the counts
 abbrev pub countChecks : ℕ → ℕ → List Check
 countChecks n d = 2 if outside 64 n ∷ 3 if outside 8 d ∷ []
 
--- 6 to 8: a sign or kind over 1, a selected line of n or more, a line without operands
+-- 6 and 7: a sign or kind over 1, a selected line of n or more
 abbrev pub contentChecks : System → List Check
 contentChecks m =
     6 if (some (ltb 1) (m .signs) || some (ltb 1) (m .kinds)) ∷
     7 if some (strays (m .lines)) (m .words) ∷
-    8 if someBelow (m .lines) (idle m) ∷
     []

@@ -5,3 +5,4 @@ pub mod ChildrenPassed
 pub mod InnermostLevels
 pub mod QueryBound
 pub mod Promises
+pub mod WithoutOperands

@@ -1,4 +1,4 @@
--- Document 01's sample models.
+-- Document 01's sample models, and those of the requests.
 -- Assumes nothing.
 use mathlib.Core.List.{List, [], _∷_}
 use Prim.Native.Nat.{ℕ}
@@ -19,3 +19,8 @@ Q = twoLines (1 ∷ 0 ∷ [])
 -- one line, any of itself, one level of the sign s
 abbrev pub one : ℕ → System
 one s = record { lines = 1; levels = 1; signs = s ∷ []; kinds = 0 ∷ []; words = 1 ∷ [] }
+
+-- lines without operands (request W2), at one level of the sign s: line 0 is any of none, line 1 all of none, line 2 any of lines 0 and 2,
+-- line 3 all of lines 1 and 3
+abbrev pub deadEnds : ℕ → System
+deadEnds s = record { lines = 4; levels = 1; signs = s ∷ []; kinds = 0 ∷ 1 ∷ 0 ∷ 1 ∷ []; words = 0 ∷ 0 ∷ 5 ∷ 10 ∷ [] }

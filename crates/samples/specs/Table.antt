@@ -1,15 +1,15 @@
--- The samples that document 01 marks † as one table, and P's bench page: what the definitions give beside what the papers say.
+-- The samples that document 01 marks † and those of the requests as one table: what the definitions give beside what the papers say.
 -- Assumes nothing.
-use mathlib.Core.List.{List, [], _∷_}
+use mathlib.Core.List.{List, [], _∷_, _++_}
 use mathlib.Core.Path.{_≡_}
 use Prim.Native.Nat.{ℕ}
 use Rattle.trees.specs.Built.{built, leafCount}
 use Rattle.system.specs.System.{System}
 use Rattle.routes.specs.Routes.{builtLeast, builtGreatest, nestedSet, plainRun, restrictedSet, restrictedCount}
 use Rattle.page_layout.specs.Page.{page}
-use Rattle.samples.specs.Models.{P, Q, one}
+use Rattle.samples.specs.Models.{P, Q, one, deadEnds}
 
--- what the definitions give, and what document 01 says
+-- what the definitions give, and what the papers say or what follows from them by hand
 pub record Row : Type 0 where
   pub given : List ℕ
   pub said : List ℕ
@@ -54,6 +54,11 @@ table =
     row (overBuilt P 0 3) (3 ∷ 4 ∷ []) ∷
     -- its page (request W1)
     row (page P (nestedSet P 0 3)) pageOfP ∷
+    -- Lines without operands (request W2). A least level begins with no line: the first round gives line 1 alone, since the lines 2 and 3 stand on
+    -- themselves, and the second the same. A greatest level begins with all lines: the first round takes line 0 alone away, and the second none.
+    -- S(4, 1) has four leaves, S(4, 0) one.
+    row (plainly (deadEnds 0) 0 15 ++ overBuilt (deadEnds 0) 0 15) (2 ∷ 2 ∷ 2 ∷ 2 ∷ 4 ∷ []) ∷
+    row (plainly (deadEnds 1) 0 15 ++ overBuilt (deadEnds 1) 0 15) (14 ∷ 14 ∷ 2 ∷ 14 ∷ 4 ∷ []) ∷
     []
 
 -- every row of a table holds

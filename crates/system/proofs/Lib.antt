@@ -1,3 +1,4 @@
 pub mod Monotone
 pub mod LineSets
 pub mod Masks
+pub mod WithoutOperands

@@ -2,11 +2,13 @@
 -- Assumes nothing.
 use mathlib.Core.Bool.{Bool, true, false, cond, _&&_, _||_}
 use mathlib.Core.List.{List, [], _∷_, _++_}
+use mathlib.Core.Path.{_≡_}
 use Prim.Native.Nat.{ℕ, zero, suc, _*_, _^_}
 use lib.ListN.{getD, take, drop}
 use Rattle.sets.specs.Set.{isMember, union}
 use Rattle.system.specs.System.{System}
 
+-- of no operands "any" is 0 and "all" is 1 (request W2; document 002 prints these turned over)
 abbrev pub any : List Bool → Bool
 any [] = false
 any (b ∷ bs) = b || any bs
@@ -34,6 +36,10 @@ operands (w ∷ ws) (x ∷ xs) = selected 64 w x ++ operands ws xs
 -- the words of line i
 abbrev pub wordsOf : System → ℕ → List ℕ
 wordsOf m i = take (m .levels) (drop (i * m .levels) (m .words))
+
+-- line i has no operands (request W2): none of its words selects a line
+abbrev pub WithoutOperands : System → ℕ → Type 0
+WithoutOperands m i = (k : ℕ) → getD (wordsOf m i) k 0 ≡ 0
 
 -- the set of those of the first n lines of which p holds
 unfoldable pub setOf : ℕ → (ℕ → Bool) → ℕ

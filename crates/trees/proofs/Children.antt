@@ -144,6 +144,10 @@ found h (g ∷ gs) = step (found h gs) (eqb g h) refl
           parts = inside (eqb-false g h e) (f .parts);
         }
 
+-- a tree has at least one child, whatever its gaps
+pub children-some : (h : ℕ) (gs : List ℕ) → Some (children h gs)
+children-some h gs = found h gs .some
+
 parts-total : {h : ℕ} {gs p : List ℕ} {ps : List (List ℕ)} → Parts h gs p ps → total (p ∷ ps) ≡ leaves gs
 unfolding total
 parts-total end = refl

@@ -1,11 +1,5 @@
 // Writing a model's file into a lent buffer. Definitions: specs/.
-ghost use mathlib.Core.Path.{_≡_};
-ghost use mathlib.Core.List.{[]};
-ghost use Prim.Native.Nat.{_*_, _≤_};
-ghost use lib.Dec.{ltb};
-ghost use lib.ListN.{length};
 ghost use Rattle.system.specs.System.{systemOf};
-ghost use Rattle.model.specs.Checks.{some, someBelow, idle};
 ghost use Rattle.writer.specs.Says.{WriteSays};
 use answers::Refusal;
 use encoder::put_file;
@@ -18,39 +12,6 @@ use model::over_one;
 pub enum Written {
     Length(usize),
     Refused(Refusal),
-}
-
-// Whether one of the words selects a line.
-fn one_selects(words: &[u64]) -> bool
-    ensures { λ r. ⌜ r ≡ some (ltb 0) (now (words .entry)) ⌝ }
-{
-    let mut i = 0;
-    while i < words.len() {
-        if 0 < words[i] {
-            return true;
-        }
-        i += 1;
-    }
-    false
-}
-
-// Whether a line of n, with d words each, has no operand.
-fn idle_words(words: &[u64], n: usize, d: usize) -> bool
-    requires { ⌜ (n ≤ 64) × (d ≤ 8) ⌝ }
-    requires { ⌜ n * d ≤ length (now words) ⌝ }
-    ensures { λ r. ⌜ r ≡ someBelow n (idle (systemOf n d [] [] (now (words .entry)))) ⌝ }
-{
-    let mut at = 0;
-    let mut i = 0;
-    while i < n {
-        let end = at + d;
-        if !one_selects(&words[at..end]) {
-            return true;
-        }
-        at = end;
-        i += 1;
-    }
-    false
 }
 
 // Writes the file of a model with these counts, signs, kinds and words; a refusal changes nothing.
@@ -86,9 +47,6 @@ pub fn write(
     }
     if one_strays(words, n) {
         return Written::Refused(Refusal::StraySelection);
-    }
-    if idle_words(words, n, d) {
-        return Written::Refused(Refusal::NoOperand);
     }
     let length = m.file_length();
     if buffer.len() < length {

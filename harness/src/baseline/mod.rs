@@ -51,7 +51,7 @@ fn full_set(n: usize) -> u64 {
 }
 
 impl<'a> Model<'a> {
-    /// Refusals 1 to 8.
+    /// Refusals 1 to 7.
     fn check(file: &'a [u8]) -> Result<Model<'a>, u64> {
         if file.len() < SIGNS_AT {
             return Err(1);
@@ -78,13 +78,10 @@ impl<'a> Model<'a> {
         if (0..lines * levels).any(|at| word(at) & !full_set(lines) != 0) {
             return Err(7);
         }
-        if (0..lines).any(|i| (0..levels).all(|k| word(i * levels + k) == 0)) {
-            return Err(8);
-        }
         Ok(model)
     }
 
-    /// Refusals 1 to 9.
+    /// Refusals 1 to 7 and 9.
     fn admit(file: &'a [u8], a: u64, b: u64) -> Result<Model<'a>, u64> {
         let model = Model::check(file)?;
         if (a | b) & !full_set(model.lines) != 0 || a & !b != 0 {

@@ -2,7 +2,8 @@
 //!
 //! A play goes from a line to one of its operands and on to that operand's line. At an "any" line the verifier moves,
 //! at an "all" line the refuter. The outermost level that is read again and again decides an endless play: the
-//! verifier wins if it is greatest, the refuter if it is least. A line of A is won at once, a line outside B lost.
+//! verifier wins if it is greatest, the refuter if it is least. Whoever must move and cannot, at a line without operands, loses.
+//! A line of A is won at once, a line outside B lost.
 
 use super::model::{Model, Set};
 
@@ -33,9 +34,9 @@ fn game_of(model: &Model, a: &[bool], b: &[bool]) -> Game {
     let n = model.lines();
     let mut positions = Vec::new();
     for i in 0..n {
-        positions.push(if a[i] {
+        positions.push(if a[i] || (b[i] && model.all[i] && model.is_idle(i)) {
             Position { verifier: true, priority: 0, moves: vec![i] }
-        } else if !b[i] {
+        } else if !b[i] || model.is_idle(i) {
             Position { verifier: true, priority: 1, moves: vec![i] }
         } else {
             let moves = model.operands[i].iter().map(|o| n + o.level * n + o.line).collect();

@@ -57,6 +57,11 @@ impl Model {
         self.greatest.len()
     }
 
+    /// Whether line i is idle: it has no operands.
+    pub fn is_idle(&self, i: usize) -> bool {
+        self.operands[i].is_empty()
+    }
+
     pub fn least_levels(&self) -> usize {
         self.greatest.iter().filter(|&&greatest| !greatest).count()
     }
@@ -108,7 +113,7 @@ impl Model {
         }
     }
 
-    /// The model of n lines and d levels with these parts, or refusal 6, 7 or 8.
+    /// The model of n lines and d levels with these parts, or refusal 6 or 7.
     pub fn from_parts(n: usize, d: usize, parts: &Parts) -> Result<Model, u64> {
         if parts.signs.iter().chain(&parts.kinds).any(|&byte| byte != 0 && byte != 1) {
             return Err(6);
@@ -125,9 +130,6 @@ impl Model {
         }
         if stray {
             return Err(7);
-        }
-        if operands.iter().any(|of_line| of_line.is_empty()) {
-            return Err(8);
         }
         Ok(Model {
             greatest: parts.signs.iter().map(|&sign| sign == 1).collect(),
@@ -153,7 +155,7 @@ impl Model {
         file
     }
 
-    /// The model of a file, or the first of refusals 1 to 8.
+    /// The model of a file, or the first of refusals 1 to 7.
     pub fn from_file(file: &[u8]) -> Result<Model, u64> {
         if file.len() < 16 {
             return Err(1);

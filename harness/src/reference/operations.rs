@@ -11,7 +11,7 @@ fn strays(word: u64, n: usize) -> bool {
     (n..64).any(|line| word >> line & 1 == 1)
 }
 
-/// A file's model with the bounds as sets, or the first of refusals 1 to 9.
+/// A file's model with the bounds as sets, or the first of refusals 1 to 7 and 9.
 pub fn judgeable(file: &[u8], a: u64, b: u64) -> Result<(Model, Set, Set), u64> {
     let model = Model::from_file(file)?;
     let n = model.lines();

@@ -12,7 +12,7 @@ use Rattle.answers.specs.Check.{firstOf, unless}
 use Rattle.answers.proofs.Checks.{Passes, first-after, first-before, none-first}
 use Rattle.system.specs.System.{System}
 use Rattle.model.specs.File.{signsAt, fileLength, linesIn, levelsIn, decode}
-use Rattle.model.specs.Checks.{some, someBelow, strays, idle, contentChecks}
+use Rattle.model.specs.Checks.{some, strays, contentChecks}
 use Rattle.checker.specs.Checks.{headerChecks, fileNumber}
 use Rattle.model.specs.Says.{sized}
 use Rattle.model.specs.declared.layout.Model.{Model}
@@ -111,45 +111,23 @@ stray-test c =
     let told = c .before .before .before .before .before in
     sym (c .stray-selection .ensures ∙ ap (λ (s : System). some (strays (s .lines)) (s .words)) (decoded (bytes told) (counts told)))
 
-returns-3 : tie.Need-returns-3
-returns-3 c =
-    rw (
-      content (c .before .before .before .before .before .before),
-      bytes-test (c .before .before .before),
-      c .before .before .if1 .left,
-      stray-test (c .before),
-      c .if2 .taken,
-    )
-
-idle-line-requires : tie.Need-idle-line-requires
-idle-line-requires c κs = fits (c .before .before .before .before .before .before)
-
-idle-test : (c : tie.After-idle-line) →
-    let system = decode (bytes (c .before .before .before .before .before .before .before)) in
-    someBelow (system .lines) (idle system) ≡ c .idle-line .result
-idle-test c =
-    let told = c .before .before .before .before .before .before .before in
-    sym (c .idle-line .ensures ∙ ap (λ (s : System). someBelow (s .lines) (idle s)) (decoded (bytes told) (counts told)))
-
--- only the lines without operands are left to check
-searched : (c : tie.After-idle-line) → fileNumber (bytes (c .before .before .before .before .before .before .before)) ≡ cond (c .idle-line .result) 8 0
+-- only the stray selections are left to check
+searched : (c : tie.After-stray-selection) → fileNumber (bytes (c .before .before .before .before .before)) ≡ cond (c .stray-selection .result) 7 0
 searched c =
     rw (
-      content (c .before .before .before .before .before .before .before),
-      bytes-test (c .before .before .before .before),
-      c .before .before .before .if1 .left,
-      stray-test (c .before .before),
-      c .before .if2 .left,
-      idle-test c,
+      content (c .before .before .before .before .before),
+      bytes-test (c .before .before),
+      c .before .if1 .left,
+      stray-test c,
     )
 
-returns-4 : tie.Need-returns-4
-returns-4 c = rw (searched (c .before), c .if3 .taken)
+returns-3 : tie.Need-returns-3
+returns-3 c = rw (searched (c .before), c .if2 .taken)
 
-returns-5 : tie.Need-returns-5
-returns-5 c =
-    let known = counts (c .before .before .before .before .before .before .before .before) in
-    rw (searched (c .before), c .if3 .left) (ap₂ sized (known .lines) (known .levels))
+returns-4 : tie.Need-returns-4
+returns-4 c =
+    let known = counts (c .before .before .before .before .before .before) in
+    rw (searched (c .before), c .if2 .left) (ap₂ sized (known .lines) (known .levels))
 
 pub check-spec : {M : Type 1} → statement M
 check-spec =
@@ -167,6 +145,4 @@ check-spec =
     returns-2
     stray-selection-requires
     returns-3
-    idle-line-requires
-    returns-4
-    returns-5)
+    returns-4)

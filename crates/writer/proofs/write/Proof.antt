@@ -3,7 +3,6 @@
 use mathlib.Core.Bool.{false}
 use mathlib.Core.Path.{_≡_, refl, sym, _∙_, ap₂}
 use Prim.Native.Nat.{ℕ, _*_, _≤_, _<_}
-use native.Mathlib.Nat.{le-of-eq}
 use native.Mathlib.Omega.{arith}
 use denote.Ref.{now}
 use lib.Dec.{ltb}
@@ -14,7 +13,7 @@ use Rattle.answers.specs.Answer.{numberOf}
 use Rattle.answers.specs.Check.{firstOf}
 use Rattle.answers.proofs.Checks.{Passes, first-after, none-first, inside}
 use Rattle.answers.specs.declared.Refusal.{Refusal}
-use Rattle.answers.specs.declared.Refusal.the-variants.{SignOrKind, StraySelection, NoOperand, Room, SliceLength}
+use Rattle.answers.specs.declared.Refusal.the-variants.{SignOrKind, StraySelection, Room, SliceLength}
 use Rattle.system.specs.System.{System, systemOf}
 use Rattle.model.specs.File.{fileLength}
 use Rattle.model.specs.Checks.{some, strays, countChecks, contentChecks}
@@ -94,17 +93,14 @@ words-right :
 words-right c = sym (c .before .one-strays .ensures) ∙ c .if6 .left
 
 -- where the contents are right too
-abbrev slices₃ : tie.Else7 → tie.Else3
-slices₃ c = c .before .before .before .before .before .before .before .before
+abbrev slices₃ : tie.Else6 → tie.Else3
+slices₃ c = c .before .before .before .before .before .before
 
-abbrev start₃ : tie.Else7 → tie.Start
+abbrev start₃ : tie.Else6 → tie.Start
 start₃ c = start₂ (slices₃ c)
 
-contents-right : (c : tie.Else7) → Passes (contentChecks (system (start₃ c)))
-contents-right c = (
-  rw (signs-right (c .before .before .before .before .before .before), kinds-right (c .before .before .before .before)),
-  (words-right (c .before .before), (sym (c .before .idle-words .ensures) ∙ c .if7 .left, tt)),
-)
+contents-right : (c : tie.Else6) → Passes (contentChecks (system (start₃ c)))
+contents-right c = (rw (signs-right (c .before .before .before .before), kinds-right (c .before .before)), (words-right c, tt))
 
 size : (c : tie.After-file-length) → c .file-length .result ≡ fileLength (start₃ (c .before) .args .n) (start₃ (c .before) .args .d)
 size c =
@@ -112,7 +108,7 @@ size c =
     c .file-length .ensures ∙ ap₂ fileLength (known .lines) (known .levels)
 
 -- and where the room is enough
-accepted : (c : tie.Else8) → writeNumber (system (start₃ (c .before .before))) (room (start₃ (c .before .before))) ≡ 0
+accepted : (c : tie.Else7) → writeNumber (system (start₃ (c .before .before))) (room (start₃ (c .before .before))) ≡ 0
 accepted c =
     let at = slices₃ (c .before .before) in
     passes-write (system (start₂ at)) (room (start₂ at))
@@ -120,7 +116,7 @@ accepted c =
       counts = counted (counts₂ at);
       sliced = sliced at;
       contents = contents-right (c .before .before);
-      enough = rw (size (c .before)) at (c .if8 .left);
+      enough = rw (size (c .before)) at (c .if7 .left);
     })
 
 new-requires : tie.Need-new-requires
@@ -179,29 +175,14 @@ returns-7 c =
       sym (c .before .one-strays .ensures) ∙ c .if6 .taken,
     ))
 
-idle-words-requires : tie.Need-idle-words-requires
-idle-words-requires c κs =
-    let at = c .before .before .before .before .before .before in
-    (few (counts₂ at), le-of-eq (sym (sliced at .words-long)))
-
-returns-8 : tie.Need-returns-8
-returns-8 c =
-    refused₂ (c .before .before .before .before .before .before .before .before) NoOperand
-    (simp (
-      signs-right (c .before .before .before .before .before .before),
-      kinds-right (c .before .before .before .before),
-      words-right (c .before .before),
-      sym (c .before .idle-words .ensures) ∙ c .if7 .taken,
-    ))
-
 file-length-requires : tie.Need-file-length-requires
 file-length-requires c κs = few-handed (counts₂ (slices₃ c))
 
-returns-9 : tie.Need-returns-9
-returns-9 c =
+returns-8 : tie.Need-returns-8
+returns-8 c =
     let m = system (start₃ (c .before .before)) in
     let space = room (start₃ (c .before .before)) in
-    let short : space < fileLength (m .lines) (m .levels) = rw (size (c .before)) at (c .if8 .taken) in
+    let short : space < fileLength (m .lines) (m .levels) = rw (size (c .before)) at (c .if7 .taken) in
     refused₂ (slices₃ (c .before .before)) Room
     (first-after (contentChecks m) (bufferChecks m space) (contents-right (c .before .before)) ∙ simp (lt-ltb _ _ short))
 
@@ -211,14 +192,14 @@ put-file-requires c κs =
     let known = counts (counts₂ at) in
     let lengths = sliced at in (
       few-handed (counts₂ at),
-      ((lengths .signs-long ∙ sym (known .levels), lengths .kinds-long ∙ sym (known .lines)), (lengths .words-long ∙ sym (ap₂ _*_ (known .lines) (known .levels)), rw (c .before .before .file-length .ensures) at (c .before .if8 .left))),
+      ((lengths .signs-long ∙ sym (known .levels), lengths .kinds-long ∙ sym (known .lines)), (lengths .words-long ∙ sym (ap₂ _*_ (known .lines) (known .levels)), rw (c .before .before .file-length .ensures) at (c .before .if7 .left))),
     )
 
 same-length : tie.Need-same-length
 same-length c = search needs
 
-returns-10 : tie.Need-returns-10
-returns-10 c =
+returns-9 : tie.Need-returns-9
+returns-9 c =
     let put = c .before .before in
     let enough = put .before .before in
     let at = slices₃ (enough .before .before) in
@@ -244,10 +225,8 @@ write-spec =
     returns-6
     one-strays-requires
     returns-7
-    idle-words-requires
-    returns-8
     file-length-requires
-    returns-9
+    returns-8
     put-file-requires
     same-length
-    returns-10)
+    returns-9)
