@@ -12,10 +12,12 @@ use harness::{ffi, Answer};
 
 const GAPS: usize = 1023;
 
-/// A model of so many lines and eight levels of alternating signs, level 8 greatest or least.
+/// A model of so many lines, line 1 idle, and eight levels of alternating signs, level 8 greatest or least.
 fn model(lines: usize, outermost_greatest: bool) -> Model {
     let signs = random::alternating(8, !outermost_greatest);
-    random::model(&mut Random::new(801), lines, &signs, Density::Several)
+    let mut model = random::model(&mut Random::new(801), lines, &signs, Density::Several);
+    model.operands[1].clear();
+    model
 }
 
 /// Gaps of trees of height 4. On the way to the last leaf of the first two every gap is met: all stand at the root, or

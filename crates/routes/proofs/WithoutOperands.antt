@@ -10,7 +10,6 @@ use lib.ListN.{getD}
 use Rattle.sets.specs.Set.{isMember, intersection, boundedStep}
 use Rattle.sets.proofs.Order.{le-member}
 use Rattle.sets.proofs.Membership.{member-meet, member-join}
-use Rattle.trees.specs.Tree.{children}
 use Rattle.trees.proofs.Children.{of-some, children-some}
 use Rattle.fixpoint.specs.Lawful.{Range}
 use Rattle.fixpoint.specs.Levels.{leastAmong, greatestAmong}
