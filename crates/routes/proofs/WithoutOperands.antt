@@ -1,7 +1,7 @@
 -- A line without operands (request W2) is judged by its kind and the bounds alone: of kind any it is in the set exactly if the lower bound has it, of
--- kind all exactly if the upper bound has it. So it is in the restricted set over any trees, and in the nested fixpoint.
+-- kind all exactly if the upper bound has it. This holds of the restricted set over any trees, and of the nested fixpoint.
 -- Assumes nothing.
-use mathlib.Core.Bool.{Bool, true, false, cond, _&&_, _||_}
+use mathlib.Core.Bool.{Bool, true, false, cond, _&&_, _||_, and-self, or-self}
 use mathlib.Core.List.{List, [], _∷_}
 use mathlib.Core.Path.{_≡_, refl, sym, _∙_, ap}
 use Prim.Native.Nat.{ℕ, zero, suc, _<_}
@@ -30,19 +30,11 @@ module _ (n : ℕ) (sign : ℕ → Bool) (f : List ℕ → ℕ) (i : ℕ) (t : B
   -- a second step, from either bound moved by a first, changes nothing
   again-low : (p q : Bool) → stepped (stepped p q) q ≡ stepped p q
   again-low true q = refl
-  again-low false q = go (q && t)
-    where
-      go : (s : Bool) → (s || s) ≡ s
-      go true = refl
-      go false = refl
+  again-low false q = or-self (q && t)
 
   again-high : (p q : Bool) → stepped p (stepped p q) ≡ stepped p q
   again-high true q = refl
-  again-high false true = go t
-    where
-      go : (s : Bool) → (s && s) ≡ s
-      go true = refl
-      go false = refl
+  again-high false true = and-self t
   again-high false false = refl
 
   abbrev Stepped : ℕ → ℕ → ℕ → Type 0
@@ -77,11 +69,10 @@ module _ (n : ℕ) (sign : ℕ → Bool) (f : List ℕ → ℕ) (i : ℕ) (t : B
 module _ (s : System) (i : ℕ) (l : i < s .lines) (none : WithoutOperands s i) (a b : ℕ) (r : Range (sets (s .lines)) a b) where
   -- over any trees, and in the nested fixpoint, whatever the value t of no operands
   module _ (t : Bool) (constant : (xs : List ℕ) → isMember (query s xs) i ≡ t) where
-    constant-restricted : (u v : List ℕ) → isMember (restrictedSet s a b u v) i ≡ isMember (cond t b a) i
+    constant-restricted : (u v : List ℕ) → isMember (restrictedSet s a b u v) i ≡ cond t (isMember b i) (isMember a i)
     constant-restricted u v =
         restricted-stepped (s .lines) (sign s) (query s) i t constant (s .levels) [] a b u v
         ∙ at t (isMember a i) (isMember b i) (le-member a b (r .mid) i)
-        ∙ sym (either t)
       where
         at : (t p q : Bool) → (p ≡ true → q ≡ true) → (p || (q && t)) ≡ cond t q p
         at true true q h = sym (h refl)
@@ -91,11 +82,7 @@ module _ (s : System) (i : ℕ) (l : i < s .lines) (none : WithoutOperands s i) 
         at false false true h = refl
         at false false false h = refl
 
-        either : (t : Bool) → isMember (cond t b a) i ≡ cond t (isMember b i) (isMember a i)
-        either true = refl
-        either false = refl
-
-    constant-nested : isMember (nestedSet s a b) i ≡ isMember (cond t b a) i
+    constant-nested : isMember (nestedSet s a b) i ≡ cond t (isMember b i) (isMember a i)
     constant-nested =
         ap (λ (x : ℕ). isMember x i) (sym (built-nested s a b r (omega arith)))
         ∙ constant-restricted (builtLeast s (s .lines)) (builtGreatest s (s .lines))
