@@ -102,11 +102,17 @@ fn lower_bound_models_need_a_tree_in_which_theirs_fits() {
         }
         let v = Tree::built_in(n, h).gaps();
         let fits = t.fits_in(&Tree::from_gaps(h, &u).unwrap());
-        let model = lower_bound_model(&t);
-        let answer = ffi::lent(&model.file(), 0, full(n), &u, &v);
-        assert_eq!(answer.set == full(n), fits, "T {:?} U {u:?}", t.gaps());
+        let mut model = lower_bound_model(&t);
+        // An idle line of kind all is in every set.
+        if random.chance(50) {
+            model.all.push(true);
+            model.operands.push(Vec::new());
+        }
+        let all = full(model.lines());
+        let answer = ffi::lent(&model.file(), 0, all, &u, &v);
+        assert_eq!(answer.set == all, fits, "T {:?} U {u:?}", t.gaps());
         // Upside down: the other tree for the other signs, and the empty set for the full one.
-        let dual = ffi::lent(&model.dual().file(), 0, full(n), &v, &u);
+        let dual = ffi::lent(&model.dual().file(), 0, all, &v, &u);
         assert_eq!(dual.set == 0, fits, "T {:?} V {u:?}", t.gaps());
         assert_eq!(answer.count, (u.len() as u64 + 1) * (v.len() as u64 + 1));
         assert_eq!(dual.count, answer.count);
