@@ -93,6 +93,7 @@ fn operands(
     idle: usize,
 ) -> Vec<Operand> {
     let mut operands = Vec::new();
+    // With no idle lines nothing is drawn here, so that the benchmark's models stay the same.
     if idle > 0 && random.chance(idle) {
         return operands;
     }
