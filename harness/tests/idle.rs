@@ -100,6 +100,7 @@ fn an_idle_line_is_its_kind_in_a_query() {
 #[test]
 fn an_idle_line_is_judged_by_its_kind_and_the_bounds_alone() {
     let mut random = Random::new(1104);
+    let mut judged_plainly = 0;
     for _ in 0..3000 {
         let (n, d) = (random.between(1, 64), random.between(1, 4));
         let Case { model, file, a, b } = random::case(&mut random, n, d);
@@ -111,8 +112,10 @@ fn an_idle_line_is_judged_by_its_kind_and_the_bounds_alone() {
         let plain = ffi::plain(&file, a, b, 10_000);
         if plain.number == 0 {
             assert_eq!(plain.set & idle, expected, "{a} {b} {model:?}");
+            judged_plainly += (idle != 0) as usize;
         }
     }
+    assert!(judged_plainly > 1000, "only {judged_plainly} models with idle lines were judged plainly");
 }
 
 /// The model with each idle line looped to itself at a level: of the least sign for kind any and the greatest for kind
