@@ -10,7 +10,7 @@ use Rattle.sets.proofs.Members.{members-full, members-most}
 use Rattle.sets.proofs.Range.{below-full}
 use Rattle.system.specs.System.{System}
 use Rattle.text.specs.Text.{shareOf}
-use Rattle.text.proofs.Nearest.{share-most}
+use Rattle.text.proofs.Rounding.{share-most}
 use Rattle.page_layout.specs.Page.{firstRow, lineRow, rowsOf, page}
 use Rattle.page_layout.proofs.Rows.{first-row-length, line-row-length, rows-length}
 

@@ -10,10 +10,11 @@ use Rattle.fixpoint.specs.Nested.{nested, extreme}
 use Rattle.fixpoint.specs.Restricted.{restricted, level, rise, fall, sumOver, levelQueries, restrictedQueries}
 use Rattle.fixpoint.specs.Plain.{thenRounds, settle, plain}
 use Rattle.system.specs.Query.{selected, operands, setOf, query}
+use Rattle.text.specs.Rounding.{rounded}
 use Rattle.text.specs.Text.{digits, places}
 use Rattle.page_layout.specs.Page.{rowsOf, page}
 use Rattle.samples.specs.Table.{table, Holds}
 
 pub samples-hold : Holds table
-unfolding table nested extreme restricted level rise fall sumOver levelQueries restrictedQueries thenRounds settle plain leastAmong greatestAmong built halvedChildren leafCount grow children meetPreFixed joinPostFixed selected operands setOf query ones digits places rowsOf page
-samples-hold = (refl, (refl, (refl, (refl, (refl, (refl, (refl, (refl, (refl, (refl, (refl, (refl, (refl, (refl, (refl, (refl, tt))))))))))))))))
+unfolding table nested extreme restricted level rise fall sumOver levelQueries restrictedQueries thenRounds settle plain leastAmong greatestAmong built halvedChildren leafCount grow children meetPreFixed joinPostFixed selected operands setOf query ones digits places rounded rowsOf page
+samples-hold = (refl, (refl, (refl, (refl, (refl, (refl, (refl, (refl, (refl, (refl, (refl, (refl, (refl, (refl, (refl, (refl, (refl, tt)))))))))))))))))

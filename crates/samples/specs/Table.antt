@@ -6,6 +6,7 @@ use Prim.Native.Nat.{ℕ}
 use Rattle.trees.specs.Built.{built, leafCount}
 use Rattle.system.specs.System.{System}
 use Rattle.routes.specs.Routes.{builtLeast, builtGreatest, nestedSet, plainRun, restrictedSet, restrictedCount}
+use Rattle.text.specs.Text.{shareOf}
 use Rattle.page_layout.specs.Page.{page}
 use Rattle.samples.specs.Models.{P, Q, one, deadEnds}
 
@@ -59,6 +60,8 @@ table =
     -- S(4, 1) has four leaves, S(4, 0) one.
     row (plainly (deadEnds 0) 0 15 ++ overBuilt (deadEnds 0) 0 15) (2 ∷ 2 ∷ 2 ∷ 2 ∷ 4 ∷ []) ∷
     row (plainly (deadEnds 1) 0 15 ++ overBuilt (deadEnds 1) 0 15) (14 ∷ 14 ∷ 2 ∷ 14 ∷ 4 ∷ []) ∷
+    -- Shares at a half (request W3): one good line of 16 has 62.5 thousandths, three have 187.5.
+    row (shareOf 1 16 ∷ shareOf 3 16 ∷ []) (62 ∷ 188 ∷ []) ∷
     []
 
 -- every row of a table holds

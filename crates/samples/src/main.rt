@@ -133,5 +133,6 @@ fn main() {
     );
     show_judged(b"P, 1024 gaps: ", solver::solve_lent(&P, 0, 3, &gaps, &[]));
     show_number(b"share of 1 in 16: ", text::share(1, 16));
+    show_number(b"share of 3 in 16: ", text::share(3, 16));
     show_page();
 }

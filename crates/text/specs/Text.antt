@@ -3,9 +3,10 @@
 use mathlib.Core.Bool.{cond}
 use mathlib.Core.List.{List, [], _∷_, _++_}
 use mathlib.Core.Path.{_≡_}
-use Prim.Native.Nat.{ℕ, zero, suc, _+_, _*_, _/_, _%_, _≤_, _<_}
+use Prim.Native.Nat.{ℕ, zero, suc, _+_, _*_, _/_, _%_}
 use lib.Dec.{ltb}
 use lib.ListN.{length, take, drop}
+use Rattle.text.specs.Rounding.{rounded}
 
 -- a digit in ASCII, lower-case from ten on
 abbrev pub digit : ℕ → ℕ
@@ -45,15 +46,9 @@ abbrev pub textOrRefused : ℕ → List ℕ → List ℕ
 textOrRefused zero text = text
 textOrRefused (suc e) text = refusedLine (suc e)
 
--- the share (document 01, "The judging program"): 1000 times good over n, rounded to a whole number, a half upwards; of no lines, 0, as
--- division by 0 has it
+-- the share (document 01, "The judging program"): 1000 times good over n, rounded; of no lines, 0
 abbrev pub shareOf : ℕ → ℕ → ℕ
-shareOf good n = (2000 * good + n) / (2 * n)
-
--- what rounding means: r - 1/2 ≤ 1000 good / n < r + 1/2, all of it times 2 n
-pub record Nearest (good n r : ℕ) : Type 0 where
-  pub no-more : r * (2 * n) ≤ 2000 * good + n
-  pub no-less : 2000 * good < r * (2 * n) + n
+shareOf good n = rounded (1000 * good) n
 
 -- a list with a text put into it at a place
 abbrev pub pasted : ℕ → List ℕ → List ℕ → List ℕ

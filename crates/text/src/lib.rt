@@ -83,12 +83,27 @@ pub fn put_refused(out: &mut [u8], at: usize, number: u64) -> usize
     put_number_line(out, at, b"refused ", number)
 }
 
-// 1000 times good over n, rounded to a whole number, a half upwards; of no lines, 0.
+// 1000 times good over n, rounded to a whole number, a half to the even neighbour; of no lines, 0.
 pub fn share(good: u32, n: u32) -> u64
     ensures { λ r. ⌜ r ≡ shareOf good n ⌝ }
 {
     if n == 0 {
         return 0;
     }
-    (2000 * (good as u64) + n as u64) / (2 * (n as u64))
+    let lines = n as u64;
+    let thousands = 1000 * (good as u64);
+    let low = thousands / lines;
+    let next = low + 1;
+    let twice_rest = 2 * (thousands % lines);
+    if twice_rest < lines {
+        return low;
+    }
+    if lines < twice_rest {
+        return next;
+    }
+    // Both are equally near.
+    if low % 2 == 0 {
+        return low;
+    }
+    next
 }

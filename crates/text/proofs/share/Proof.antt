@@ -1,28 +1,51 @@
--- `text::share` meets its contract; the definition too gives 0 of no lines.
+-- `text::share` meets its contract: by what the division leaves, the number that it gives is the one that is rounded to; of no lines both are 0.
 -- Assumes nothing.
 use mathlib.Core.Path.{sym}
-use native.Mathlib.Nat.{div-zero}
+use Prim.Native.Nat.{_*_}
+use native.Mathlib.Nat.{div-le-self, mod-lt}
+use native.Mathlib.Omega.{arith}
 use borrow.Author.Needs.{needs}
+use Rattle.text.proofs.Rounding.{rounded-none, low-rounded, next-rounded}
 use Rattle.text.proofs.share.Statement.{statement}
 use Rattle.text.proofs.share.Tie as tie
 
 returns : tie.Need-returns
-returns c = rw (c .if1 .taken) (sym (div-zero _))
+returns c = rw (c .if1 .taken) (sym (rounded-none _))
 
-mul-result : tie.Need-mul-result
-mul-result c = search needs
+mul-thousands : tie.Need-mul-thousands
+mul-thousands c = search needs
 
-add-result : tie.Need-add-result
-add-result c = search needs
+div-low : tie.Need-div-low
+div-low c = search needs
 
-mul-result-2 : tie.Need-mul-result-2
-mul-result-2 c = search needs
+add-next : tie.Need-add-next
+add-next c = omega (arith, div-le-self (1000 * c .before .args .good) (c .before .args .n))
 
-div-result : tie.Need-div-result
-div-result c = search needs
+rem-twice-rest : tie.Need-rem-twice-rest
+rem-twice-rest c = search needs
+
+mul-twice-rest : tie.Need-mul-twice-rest
+mul-twice-rest c = omega (arith, mod-lt (1000 * c .before .args .good) {m = c .before .args .n} (omega arith))
 
 returns-2 : tie.Need-returns-2
-returns-2 c = search needs
+returns-2 c =
+    let args = c .before .before .args in
+    low-rounded (1000 * args .good) (args .n) (omega arith) (omega arith) (λ half. absurd (omega arith))
+
+returns-3 : tie.Need-returns-3
+returns-3 c =
+    let args = c .before .before .before .args in
+    next-rounded (1000 * args .good) (args .n) (omega arith) (omega arith) (λ half. absurd (omega arith))
+
+returns-4 : tie.Need-returns-4
+returns-4 c =
+    let args = c .before .before .before .before .args in
+    low-rounded (1000 * args .good) (args .n) (omega arith) (omega arith) (λ half. omega arith)
+
+returns-5 : tie.Need-returns-5
+returns-5 c =
+    let args = c .before .before .before .before .args in
+    next-rounded (1000 * args .good) (args .n) (omega arith) (omega arith) (λ half. omega arith)
 
 pub share-spec : {M : Type 1} → statement M
-share-spec = tie.close (tie.spec returns mul-result add-result mul-result-2 div-result returns-2)
+share-spec = tie.close (tie.spec returns mul-thousands div-low add-next rem-twice-rest mul-twice-rest returns-2 returns-3 returns-4 returns-5)
