@@ -46,6 +46,12 @@ pub fn full(n: usize) -> u64 {
     (0..n).map(|line| 1 << line).sum()
 }
 
+fn shuffle<T>(random: &mut Random, entries: &mut [T]) {
+    for i in (1..entries.len()).rev() {
+        entries.swap(i, random.between(0, i));
+    }
+}
+
 // ---- models ----
 
 /// How many operands a line has that is not idle.
@@ -175,9 +181,7 @@ pub fn hard_model(random: &mut Random, n: usize, h: usize, idle: usize) -> Model
         model.operands.push(operands(random, i, n, 2 * h, Density::Few, idle));
     }
     let mut place: Vec<usize> = (0..n).collect();
-    for i in (1..n).rev() {
-        place.swap(i, random.between(0, i));
-    }
+    shuffle(random, &mut place);
     let mut moved = Model { greatest: model.greatest, all: vec![false; n], operands: vec![Vec::new(); n] };
     for (i, of_line) in model.operands.iter().enumerate() {
         let move_to = |o: &Operand| Operand { level: o.level, line: place[o.line] };
@@ -186,6 +190,20 @@ pub fn hard_model(random: &mut Random, n: usize, h: usize, idle: usize) -> Model
         moved.operands[place[i]].sort();
     }
     moved
+}
+
+/// A model of n lines of which so many are good between no line and all lines, in any places. Level 1 is least and level 2
+/// greatest; a good line is all of none or any of itself at level 2, another one any of none or all of itself at level 1.
+pub fn model_with_good_lines(random: &mut Random, n: usize, good: usize) -> Model {
+    let mut lines: Vec<bool> = (0..n).map(|i| i < good).collect();
+    shuffle(random, &mut lines);
+    let mut model = Model { greatest: vec![false, true], all: Vec::new(), operands: Vec::new() };
+    for (line, good) in lines.into_iter().enumerate() {
+        let idle = random.chance(50);
+        model.all.push(good == idle);
+        model.operands.push(if idle { Vec::new() } else { vec![Operand { level: good as usize, line }] });
+    }
+    model
 }
 
 /// A model of n lines and d levels of any of these sorts.

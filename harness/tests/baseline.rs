@@ -52,3 +52,17 @@ fn the_baseline_makes_pages_as_the_reference_does() {
         assert_eq!(made, expected, "{file:?}");
     }
 }
+
+#[test]
+fn the_baseline_rounds_every_share_as_the_reference_does() {
+    let mut random = Random::new(903);
+    for n in 1..=64 {
+        for good in 0..=n {
+            let file = random::model_with_good_lines(&mut random, n, good).file();
+            let mut made = vec![0; 41 * (n + 1)];
+            let mut expected = made.clone();
+            assert_eq!(page(&file, &mut made), reference::page(&file, &mut expected), "{good} of {n}");
+            assert_eq!(made, expected, "{good} of {n}");
+        }
+    }
+}

@@ -132,3 +132,22 @@ fn the_page_marks_the_lines_that_judging_finds() {
     }
     assert!(mixed > 100, "{mixed} pages have lines of both marks");
 }
+
+#[test]
+fn every_share_is_the_nearest_number_or_the_even_one() {
+    let mut random = Random::new(1007);
+    let (mut down, mut up) = (0, 0);
+    for n in 1..=64 {
+        for good in 0..=n {
+            let page = page_of(&random::model_with_good_lines(&mut random, n, good).file());
+            assert_eq!(page.matches('+').count(), good, "{page}");
+            let share: u64 = page[24..28].trim_start().parse().expect("it is a number");
+            assert_eq!(share, reference::share(good, n), "{good} of {n}");
+            let (rounded, exact) = (2 * n * share as usize, 2000 * good);
+            down += (rounded + n == exact) as usize;
+            up += (rounded == exact + n) as usize;
+        }
+    }
+    // A half comes of an odd number of sixteenths: eight such numbers for each of 16, 32, 48 and 64 lines, every other one rounded up.
+    assert_eq!((down, up), (16, 16));
+}

@@ -114,6 +114,22 @@ fn loops_in_place_of_missing_successors_are_judged_as_the_note_says() {
 }
 
 #[test]
+fn shares_of_sixteenths_are_printed() {
+    let mut random = Random::new(802);
+    for n in [16, 32, 48, 64] {
+        for good in (0..=n).step_by(n / 16) {
+            let file = random::model_with_good_lines(&mut random, n, good).file();
+            let text = judged(&file);
+            assert_eq!(text, expected_judgement(&file), "{good} of {n}");
+            assert_eq!(paged(&file), expected_page(&file), "{good} of {n}");
+            // 62.5, 125, 187.5 and so on, a half to the even number.
+            let shares = [0, 62, 125, 188, 250, 312, 375, 438, 500, 562, 625, 688, 750, 812, 875, 938, 1000];
+            assert!(text.ends_with(&format!("\nshare {}\n", shares[16 * good / n])), "{good} of {n}: {text}");
+        }
+    }
+}
+
+#[test]
 fn random_files_are_judged_or_refused() {
     let mut random = Random::new(801);
     let (mut accepted, mut refused) = (0, 0);

@@ -7,7 +7,7 @@ use harness::reference::nested::nested;
 use harness::reference::plain::rounds;
 use harness::reference::restricted::restricted;
 use harness::reference::tree::lower_bound_model;
-use harness::reference::{set_of, word_of, Tree};
+use harness::reference::{self, set_of, word_of, Tree};
 
 /// The restricted set over the built-in trees.
 fn over_built_in_trees(model: &Model, a: &[bool], b: &[bool]) -> (Vec<bool>, u64) {
@@ -114,6 +114,17 @@ fn built_in_trees_are_document_01s() {
     assert_eq!(Tree::built_in(3, 2).gaps(), [2, 1, 1, 2]);
     for (n, h, leaves) in [(4, 2, 8), (8, 2, 21), (4, 3, 13), (64, 1, 64), (64, 0, 1)] {
         assert_eq!(Tree::built_in(n, h).leaf_count(), leaves, "L({n}, {h})");
+    }
+}
+
+#[test]
+fn shares_are_rounded_as_floating_point_rounds_to_even() {
+    // A share at a half is exact in floating point, and every other one is 1/128 or more from a half.
+    for n in 1..=64 {
+        for good in 0..=n {
+            let exact = 1000.0 * good as f64 / n as f64;
+            assert_eq!(reference::share(good, n), exact.round_ties_even() as u64, "{good} of {n}");
+        }
     }
 }
 

@@ -89,6 +89,19 @@ fn lines_without_operands() {
 }
 
 #[test]
+fn shares_at_a_half() {
+    // 1000 / 16 is 62.5 and 3000 / 16 is 187.5; the even neighbours are 62 and 188.
+    for (good, share) in [(1, "  62"), (3, " 188")] {
+        let all = (0..16).map(|i| i < good).collect();
+        let file = Model { greatest: vec![false], all, operands: vec![Vec::new(); 16] }.file();
+        let mut page = [0; 41 * 17];
+        assert_eq!(ffi::page(&file, &mut page), Answer { length: 41 * 17, ..Answer::default() });
+        let row = format!("lines 16 levels 1 share {share}            \n");
+        assert_eq!(String::from_utf8_lossy(&page[..41]), row);
+    }
+}
+
+#[test]
 fn p_between_equal_bounds() {
     assert_eq!(ffi::plain(&P, 1, 1, 10).set, 1);
     assert_eq!(ffi::built(&P, 1, 1).set, 1);

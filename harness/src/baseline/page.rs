@@ -2,6 +2,7 @@
 
 use super::{by_levels, full_set, Model};
 use crate::Answer;
+use std::cmp::Ordering;
 
 const ROW_PLACES: usize = 40;
 
@@ -37,6 +38,16 @@ fn end_row(out: &mut [u8], start: usize, at: usize) -> usize {
     put(out, end, b"\n")
 }
 
+/// 1000 × good / n, a half to the even neighbour.
+fn share(good: u64, n: u64) -> u64 {
+    let low = 1000 * good / n;
+    match (2 * (1000 * good % n)).cmp(&n) {
+        Ordering::Less => low,
+        Ordering::Equal => low + low % 2,
+        Ordering::Greater => low + 1,
+    }
+}
+
 pub fn page(file: &[u8], buffer: &mut [u8]) -> Answer {
     let m = match Model::check(file) {
         Ok(m) => m,
@@ -47,7 +58,7 @@ pub fn page(file: &[u8], buffer: &mut [u8]) -> Answer {
     if buffer.len() < (ROW_PLACES + 1) * (n + 1) {
         return Answer::refused(12);
     }
-    let share = (2000 * set.count_ones() as u64 + n as u64) / (2 * n as u64);
+    let share = share(set.count_ones() as u64, n as u64);
     let mut at = put(buffer, 0, b"lines ");
     at = put_right(buffer, at, 2, n as u64);
     at = put(buffer, at, b" levels ");

@@ -5,9 +5,10 @@ use super::model::{set_of, Model};
 use crate::random::full;
 use crate::Answer;
 
-/// 1000 × good lines / n, a half upwards.
+/// 1000 × good lines / n, rounded: of all whole numbers that a share can be, the nearest, and the even one of two.
 pub fn share(good: usize, n: usize) -> u64 {
-    (1000.0 * good as f64 / n as f64 + 0.5).floor() as u64
+    let distance = |whole: usize| (1000 * good).abs_diff(whole * n);
+    (0..=1000).min_by_key(|&whole| (distance(whole), whole % 2)).expect("there are some") as u64
 }
 
 /// The page of a model between empty and full.
