@@ -83,7 +83,7 @@ fn every_sample_model_is_judged_and_has_its_page() {
             seen += 1;
         }
     }
-    assert_eq!(seen, 6);
+    assert_eq!(seen, 7);
 }
 
 #[test]
@@ -98,6 +98,22 @@ fn the_sample_models_show_what_their_note_says() {
         text("models/tripped.model"),
         "plain 0000000000000007 6\ntree 0000000000000007 16\nshare 750\n"
     );
+    assert_eq!(
+        text("models/interlocks.model"),
+        "plain 0000000000008000 2\ntree 0000000000008000 16\nshare 62\n"
+    );
+}
+
+#[test]
+fn two_more_closed_interlocks_have_the_share_that_the_note_says() {
+    let file = std::fs::read(root("models/interlocks.model")).expect("it is there");
+    let mut model = reference::Model::from_file(&file).expect("it is a model");
+    assert!(model.all[15] && model.is_idle(15));
+    for line in [13, 14] {
+        model.all[line] = true;
+        model.operands[line].clear();
+    }
+    assert!(judged(&model.file()).ends_with("tree 000000000000e000 16\nshare 188\n"));
 }
 
 #[test]
