@@ -9,8 +9,8 @@ use Rattle.sets.specs.Set.{isMember, full, members}
 use Rattle.sets.proofs.Members.{members-full, members-most}
 use Rattle.sets.proofs.Range.{below-full}
 use Rattle.system.specs.System.{System}
-use Rattle.text.specs.Text.{shareOf}
-use Rattle.text.proofs.Rounding.{share-most}
+use Rattle.share.specs.Share.{shareOf}
+use Rattle.share.proofs.Rounding.{share-most}
 use Rattle.page_layout.specs.Page.{firstRow, lineRow, rowsOf, page}
 use Rattle.page_layout.proofs.Rows.{first-row-length, line-row-length, rows-length}
 

@@ -7,7 +7,8 @@ use Prim.Native.Nat.{ℕ, zero, suc}
 use lib.ListN.{getD}
 use Rattle.sets.specs.Set.{isMember, members}
 use Rattle.system.specs.System.{System}
-use Rattle.text.specs.Text.{decimal, shareOf}
+use Rattle.share.specs.Share.{shareOf}
+use Rattle.text.specs.Text.{decimal}
 use Rattle.padding.specs.Padding.{setRight, setLeft}
 
 -- the words of the page, in ASCII

@@ -101,7 +101,7 @@ pub fn put_page(file: &[u8], m: Model, good: u64, out: &mut [u8]) -> usize
     requires { ⌜ 41 * (m .lines + 1) ≤ length (now out) ⌝ }
     ensures { λ r. ⌜ Puts 0 (page (systemIn (now (file .entry)) m) good) (now (out .entry)) (now (out .exit)) r ⌝ }
 {
-    let share = text::share(sets::member_count(good), m.lines as u32);
+    let share = share::share_of(sets::member_count(good), m.lines as u32);
     let rows = put_first_row(out, m, share);
     put_line_rows(file, m, good, out, rows)
 }

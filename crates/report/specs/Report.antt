@@ -10,7 +10,8 @@ use Rattle.sets.specs.Set.{full, members}
 use Rattle.model.specs.File.{decode}
 use Rattle.checker.specs.Checks.{fileNumber}
 use Rattle.solver.specs.Says.{plainAnswer, builtAnswer}
-use Rattle.text.specs.Text.{hex, numberLine, textOrRefused, shareOf}
+use Rattle.share.specs.Share.{shareOf}
+use Rattle.text.specs.Text.{hex, numberLine, textOrRefused}
 
 -- the words of the output, in ASCII, each with a blank behind it
 abbrev pub plainWord : List ℕ

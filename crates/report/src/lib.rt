@@ -46,7 +46,7 @@ fn put_share(out: &mut [u8], at: usize, j: Judged, n: usize) -> usize
         Judged::Found { set, count: _ } => set,
         Judged::Refused(_) => 0,
     };
-    let share = text::share(sets::member_count(set), n as u32);
+    let share = share::share_of(sets::member_count(set), n as u32);
     put_number_line(out, at, b"share ", share)
 }
 

@@ -10,7 +10,7 @@ use Rattle.fixpoint.specs.Nested.{nested, extreme}
 use Rattle.fixpoint.specs.Restricted.{restricted, level, rise, fall, sumOver, levelQueries, restrictedQueries}
 use Rattle.fixpoint.specs.Plain.{thenRounds, settle, plain}
 use Rattle.system.specs.Query.{selected, operands, setOf, query}
-use Rattle.text.specs.Rounding.{rounded}
+use Rattle.share.specs.Rounding.{rounded}
 use Rattle.text.specs.Text.{digits, places}
 use Rattle.page_layout.specs.Page.{rowsOf, page}
 use Rattle.samples.specs.Table.{table, Holds}

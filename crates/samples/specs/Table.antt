@@ -6,7 +6,7 @@ use Prim.Native.Nat.{ℕ}
 use Rattle.trees.specs.Built.{built, leafCount}
 use Rattle.system.specs.System.{System}
 use Rattle.routes.specs.Routes.{builtLeast, builtGreatest, nestedSet, plainRun, restrictedSet, restrictedCount}
-use Rattle.text.specs.Text.{shareOf}
+use Rattle.share.specs.Share.{shareOf}
 use Rattle.page_layout.specs.Page.{page}
 use Rattle.samples.specs.Models.{P, Q, one, deadEnds}
 

@@ -132,7 +132,7 @@ fn main() {
         solver::solve_lent(&P, 0, 3, &gaps[..1023], &[]),
     );
     show_judged(b"P, 1024 gaps: ", solver::solve_lent(&P, 0, 3, &gaps, &[]));
-    show_number(b"share of 1 in 16: ", text::share(1, 16));
-    show_number(b"share of 3 in 16: ", text::share(3, 16));
+    show_number(b"share of 1 in 16: ", share::share_of(1, 16));
+    show_number(b"share of 3 in 16: ", share::share_of(3, 16));
     show_page();
 }

@@ -1,12 +1,11 @@
--- Numbers as text, the lines that end in a number, the share, and what a buffer holds with a text put into it.
+-- Numbers as text, the lines that end in a number, and what a buffer holds with a text put into it.
 -- Assumes nothing.
 use mathlib.Core.Bool.{cond}
 use mathlib.Core.List.{List, [], _∷_, _++_}
 use mathlib.Core.Path.{_≡_}
-use Prim.Native.Nat.{ℕ, zero, suc, _+_, _*_, _/_, _%_}
+use Prim.Native.Nat.{ℕ, zero, suc, _+_, _/_, _%_}
 use lib.Dec.{ltb}
 use lib.ListN.{length, take, drop}
-use Rattle.text.specs.Rounding.{rounded}
 
 -- a digit in ASCII, lower-case from ten on
 abbrev pub digit : ℕ → ℕ
@@ -45,10 +44,6 @@ refusedLine e = numberLine refusedWord e
 abbrev pub textOrRefused : ℕ → List ℕ → List ℕ
 textOrRefused zero text = text
 textOrRefused (suc e) text = refusedLine (suc e)
-
--- the share (document 01, "The judging program"): 1000 times good over n, rounded; of no lines, 0
-abbrev pub shareOf : ℕ → ℕ → ℕ
-shareOf good n = rounded (1000 * good) n
 
 -- a list with a text put into it at a place
 abbrev pub pasted : ℕ → List ℕ → List ℕ → List ℕ

@@ -1,8 +1,8 @@
-// Texts and numbers as text, put into a lent buffer, and the share. Definitions: specs/.
+// Texts and numbers as text, put into a lent buffer. Definitions: specs/.
 ghost use mathlib.Core.Path.{_≡_};
 ghost use Prim.Native.Nat.{_+_, _≤_, _<_};
 ghost use lib.ListN.{length};
-ghost use Rattle.text.specs.Text.{digit, digits, places, hex, decimal, numberLine, refusedLine, shareOf, Puts};
+ghost use Rattle.text.specs.Text.{digit, digits, places, hex, decimal, numberLine, refusedLine, Puts};
 
 // Puts a text at a place, and answers the place behind it.
 pub fn put(out: &mut [u8], at: usize, text: &[u8]) -> usize
@@ -81,29 +81,4 @@ pub fn put_refused(out: &mut [u8], at: usize, number: u64) -> usize
     ensures { λ r. ⌜ Puts at (refusedLine number) (now (out .entry)) (now (out .exit)) r ⌝ }
 {
     put_number_line(out, at, b"refused ", number)
-}
-
-// 1000 times good over n, rounded to a whole number, a half to the even neighbour; of no lines, 0.
-pub fn share(good: u32, n: u32) -> u64
-    ensures { λ r. ⌜ r ≡ shareOf good n ⌝ }
-{
-    if n == 0 {
-        return 0;
-    }
-    let lines = n as u64;
-    let thousands = 1000 * (good as u64);
-    let low = thousands / lines;
-    let next = low + 1;
-    let twice_rest = 2 * (thousands % lines);
-    if twice_rest < lines {
-        return low;
-    }
-    if lines < twice_rest {
-        return next;
-    }
-    // Both are equally near.
-    if low % 2 == 0 {
-        return low;
-    }
-    next
 }

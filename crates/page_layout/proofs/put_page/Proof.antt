@@ -4,7 +4,7 @@ use mathlib.Core.Path.{_≡_, _∙_, ap}
 use Prim.Native.Nat.{ℕ, _≤_}
 use native.Mathlib.Omega.{arith}
 use Rattle.sets.specs.Set.{members}
-use Rattle.text.specs.Text.{shareOf}
+use Rattle.share.specs.Share.{shareOf}
 use Rattle.text.proofs.Digits.{puts-then}
 use Rattle.page_layout.specs.Page.{page}
 use Rattle.page_layout.proofs.Rows.{first-row-length}
@@ -13,13 +13,13 @@ use borrow.Author.Needs.{needs}
 use Rattle.page_layout.proofs.put_page.Statement.{statement}
 use Rattle.page_layout.proofs.put_page.Tie as tie
 
-abbrev start : tie.After-share → tie.Start
+abbrev start : tie.After-share-of → tie.Start
 start c = c .before .before .before .before .before
 
-share-known : (c : tie.After-share) → c .share .result ≡ shareOf (members (start c .args .good)) (start c .args .m .lines)
-share-known c = c .share .ensures ∙ ap (λ (x : ℕ). shareOf x (start c .args .m .lines)) (c .before .before .member-count .ensures)
+share-known : (c : tie.After-share-of) → c .share-of .result ≡ shareOf (members (start c .args .good)) (start c .args .m .lines)
+share-known c = c .share-of .ensures ∙ ap (λ (x : ℕ). shareOf x (start c .args .m .lines)) (c .before .before .member-count .ensures)
 
-share-fits : (c : tie.After-share) → c .share .result ≤ 1000
+share-fits : (c : tie.After-share-of) → c .share-of .result ≤ 1000
 share-fits c = omega (arith, share-known c, share-few (start c .args .m .lines) (start c .args .good) (start c .pre .1 .0))
 
 -- the first row is 41 bytes long
@@ -30,17 +30,17 @@ rows-at c =
     omega (
       arith,
       c .put-first-row .ensures .end,
-      first-row-length (start share .args .m .lines) (start share .args .m .levels) (share .share .result) (omega (arith, held .few-lines)) (omega (arith, held .few-levels)) (omega (arith, share-fits share)),
+      first-row-length (start share .args .m .lines) (start share .args .m .levels) (share .share-of .result) (omega (arith, held .few-lines)) (omega (arith, held .few-levels)) (omega (arith, share-fits share)),
     )
 
 member-count-requires : tie.Need-member-count-requires
 member-count-requires c κs = search needs
 
-cast-share : tie.Need-cast-share
-cast-share c = search needs
+cast-share-of : tie.Need-cast-share-of
+cast-share-of c = search needs
 
-share-requires : tie.Need-share-requires
-share-requires c κs = search needs
+share-of-requires : tie.Need-share-of-requires
+share-of-requires c κs = search needs
 
 put-first-row-requires : tie.Need-put-first-row-requires
 put-first-row-requires c κs =
@@ -67,8 +67,8 @@ put-page-spec =
     tie.close
     (tie.spec
     member-count-requires
-    cast-share
-    share-requires
+    cast-share-of
+    share-of-requires
     put-first-row-requires
     put-line-rows-requires
     same-length

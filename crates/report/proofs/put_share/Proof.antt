@@ -4,7 +4,7 @@ use mathlib.Core.Logic.{⊎-elim}
 use mathlib.Core.Path.{_≡_, ap, _∙_}
 use Prim.Native.Nat.{ℕ}
 use Rattle.solver.specs.Says.{judgedAnswer}
-use Rattle.text.specs.Text.{shareOf}
+use Rattle.share.specs.Share.{shareOf}
 use borrow.Author.Needs.{needs}
 use Rattle.report.proofs.put_share.Statement.{statement}
 use Rattle.report.proofs.put_share.Tie as tie
@@ -22,11 +22,11 @@ enum-told c = search needs
 member-count-requires : tie.Need-member-count-requires
 member-count-requires c κs = search needs
 
-cast-share : tie.Need-cast-share
-cast-share c = search needs
+cast-share-of : tie.Need-cast-share-of
+cast-share-of c = search needs
 
-share-requires : tie.Need-share-requires
-share-requires c κs = search needs
+share-of-requires : tie.Need-share-of-requires
+share-of-requires c κs = search needs
 
 slice-aggregate-put-number-line : tie.Need-slice-aggregate-put-number-line
 slice-aggregate-put-number-line c = search needs
@@ -43,7 +43,7 @@ returns c =
     let counted = share .before in
     let match = counted .before in
     let start = match .before .before in
-    let known = share .share .ensures ∙ ap (λ (x : ℕ). shareOf x (start .args .n)) (counted .member-count .ensures) in
+    let known = share .share-of .ensures ∙ ap (λ (x : ℕ). shareOf x (start .args .n)) (counted .member-count .ensures) in
     rw (shared match) (rw known at (c .before .before .put-number-line .ensures))
 
 pub put-share-spec : {M : Type 1} → statement M
@@ -53,8 +53,8 @@ put-share-spec =
     enum-known-j
     enum-told
     member-count-requires
-    cast-share
-    share-requires
+    cast-share-of
+    share-of-requires
     slice-aggregate-put-number-line
     put-number-line-requires
     same-length

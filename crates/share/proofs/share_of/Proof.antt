@@ -1,13 +1,13 @@
--- `text::share` meets its contract: by what the division leaves, the number that it gives is the one that is rounded to; of no lines both are 0.
+-- `share::share_of` meets its contract: by what the division leaves, the number that it gives is the one that is rounded to; of no lines both are 0.
 -- Assumes nothing.
 use mathlib.Core.Path.{sym}
 use Prim.Native.Nat.{_*_}
 use native.Mathlib.Nat.{div-le-self, mod-lt}
 use native.Mathlib.Omega.{arith}
 use borrow.Author.Needs.{needs}
-use Rattle.text.proofs.Rounding.{rounded-none, low-rounded, next-rounded}
-use Rattle.text.proofs.share.Statement.{statement}
-use Rattle.text.proofs.share.Tie as tie
+use Rattle.share.proofs.Rounding.{rounded-none, low-rounded, next-rounded}
+use Rattle.share.proofs.share_of.Statement.{statement}
+use Rattle.share.proofs.share_of.Tie as tie
 
 returns : tie.Need-returns
 returns c = rw (c .if1 .taken) (sym (rounded-none _))
@@ -47,5 +47,5 @@ returns-5 c =
     let args = c .before .before .before .before .args in
     next-rounded (1000 * args .good) (args .n) (omega arith) (omega arith) (λ half. omega arith)
 
-pub share-spec : {M : Type 1} → statement M
-share-spec = tie.close (tie.spec returns mul-thousands div-low add-next rem-twice-rest mul-twice-rest returns-2 returns-3 returns-4 returns-5)
+pub share-of-spec : {M : Type 1} → statement M
+share-of-spec = tie.close (tie.spec returns mul-thousands div-low add-next rem-twice-rest mul-twice-rest returns-2 returns-3 returns-4 returns-5)

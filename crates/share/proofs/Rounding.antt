@@ -1,5 +1,5 @@
 -- Rounding: `rounded` meets the definition of rounding, and for n of 1 or more it is the only number that does. So 1000 good / n is rounded to the share
--- and to nothing else, for all numbers of good lines and of lines; where no more lines are good than there are, the share is at most 1000.
+-- and to nothing else, for every number of good lines and every n from 1 on; where no more lines are good than there are, the share is at most 1000.
 -- Assumes nothing.
 use mathlib.Core.Bool.{Bool, true, false, cond}
 use mathlib.Core.Logic.{_↔_}
@@ -9,8 +9,8 @@ use native.Mathlib.Nat.{add-zero, le-antisymm, mul-le-mul-left, div-add-mod, div
 use native.Mathlib.Omega.{arith}
 use lib.Dec.{ltb, eqb}
 use borrow.Author.Tests.{ltb-true, ltb-false, le-ltb, eqb-true, eqb-false}
-use Rattle.text.specs.Rounding.{distance, RoundsTo, rounded}
-use Rattle.text.specs.Text.{shareOf}
+use Rattle.share.specs.Rounding.{distance, RoundsTo, rounded}
+use Rattle.share.specs.Share.{shareOf}
 
 -- ---- at most one number ----
 
