@@ -1,5 +1,5 @@
 // Document 01's samples: the models and the table of the samples that are proved (specs/), and this program, which runs the others.
-// Its stored output is what document 01 says of them, and P's bench page.
+// Its stored output is what document 01 says of them, for the shares what request W3 says, and P's bench page.
 use answers::Refusal;
 use libc::STDOUT_FILENO;
 use model::Reading;
