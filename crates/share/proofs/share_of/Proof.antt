@@ -1,13 +1,20 @@
 -- `share::share_of` meets its contract: by what the division leaves, the number that it gives is the one that is rounded to; of no lines both are 0.
 -- Assumes nothing.
 use mathlib.Core.Path.{sym}
-use Prim.Native.Nat.{_*_}
+use Prim.Native.Nat.{ℕ, _+_, _*_, _/_, _%_, _^_, _<_}
 use native.Mathlib.Nat.{div-le-self, mod-lt}
 use native.Mathlib.Omega.{arith}
 use borrow.Author.Needs.{needs}
 use Rattle.share.proofs.Rounding.{rounded-none, low-rounded, next-rounded}
 use Rattle.share.proofs.share_of.Statement.{statement}
 use Rattle.share.proofs.share_of.Tie as tie
+
+-- what fits a word, whatever is divided
+next-fits : (x n : ℕ) → x < 2 ^ 63 → x / n + 1 < 2 ^ 64
+next-fits x n few = omega (arith, div-le-self x n)
+
+rest-fits : (x n : ℕ) → 0 < n → n < 2 ^ 63 → 2 * (x % n) < 2 ^ 64
+rest-fits x n some few = omega (arith, mod-lt x some)
 
 returns : tie.Need-returns
 returns c = rw (c .if1 .taken) (sym (rounded-none _))
@@ -19,13 +26,13 @@ div-low : tie.Need-div-low
 div-low c = search needs
 
 add-next : tie.Need-add-next
-add-next c = omega (arith, div-le-self (1000 * c .before .args .good) (c .before .args .n))
+add-next c = record { fits = next-fits _ _ (omega arith) }
 
 rem-twice-rest : tie.Need-rem-twice-rest
 rem-twice-rest c = search needs
 
 mul-twice-rest : tie.Need-mul-twice-rest
-mul-twice-rest c = omega (arith, mod-lt (1000 * c .before .args .good) {m = c .before .args .n} (omega arith))
+mul-twice-rest c = record { fits = rest-fits _ _ (omega arith) (omega arith) }
 
 returns-2 : tie.Need-returns-2
 returns-2 c =
