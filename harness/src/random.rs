@@ -198,10 +198,10 @@ pub fn model_with_good_lines(random: &mut Random, n: usize, good: usize) -> Mode
     let mut lines: Vec<bool> = (0..n).map(|i| i < good).collect();
     shuffle(random, &mut lines);
     let mut model = Model { greatest: vec![false, true], all: Vec::new(), operands: Vec::new() };
-    for (line, good) in lines.into_iter().enumerate() {
+    for (line, is_good) in lines.into_iter().enumerate() {
         let idle = random.chance(50);
-        model.all.push(good == idle);
-        model.operands.push(if idle { Vec::new() } else { vec![Operand { level: good as usize, line }] });
+        model.all.push(is_good == idle);
+        model.operands.push(if idle { Vec::new() } else { vec![Operand { level: is_good as usize, line }] });
     }
     model
 }

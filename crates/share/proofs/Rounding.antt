@@ -50,10 +50,10 @@ within-half {x} {n} {r} near tie =
 
 -- The whole part and the number after it, by what the division leaves.
 module _ (x n : ℕ) (some : 0 < n) where
-  low-rounds : 2 * (x % n) ≤ n → (2 * (x % n) ≡ n → x / n % 2 ≡ 0) → RoundsTo x n (x / n)
+  pub low-rounds : 2 * (x % n) ≤ n → (2 * (x % n) ≡ n → x / n % 2 ≡ 0) → RoundsTo x n (x / n)
   low-rounds near tie = within-half (omega (arith, div-add-mod x n)) (λ e. tie (omega (arith, div-add-mod x n)))
 
-  next-rounds : n ≤ 2 * (x % n) → (2 * (x % n) ≡ n → (x / n + 1) % 2 ≡ 0) → RoundsTo x n (x / n + 1)
+  pub next-rounds : n ≤ 2 * (x % n) → (2 * (x % n) ≡ n → (x / n + 1) % 2 ≡ 0) → RoundsTo x n (x / n + 1)
   next-rounds near tie =
       within-half (omega (arith, div-add-mod x n, mod-lt x some)) (λ e. tie (omega (arith, div-add-mod x n, mod-lt x some)))
 
@@ -66,13 +66,17 @@ module _ (x n : ℕ) (some : 0 < n) where
       go (suc zero) e = next-rounds (omega arith) (λ _. omega arith)
       go (suc (suc p)) e = absurd (omega arith)
 
+  abbrev below : ℕ
+  below = distance x (n * (x / n))
+
+  abbrev above : ℕ
+  above = distance x (n * (x / n + 1))
+
   some-rounds : RoundsTo x n (rounded x n)
   unfolding rounded
-  some-rounds = go (ltb (distance x (n * (x / n))) (distance x (n * (x / n + 1)))) refl (ltb (distance x (n * (x / n + 1))) (distance x (n * (x / n)))) refl
+  some-rounds = go (ltb below above) refl (ltb above below) refl
     where
-      go : (t : Bool) → ltb (distance x (n * (x / n))) (distance x (n * (x / n + 1))) ≡ t
-          → (u : Bool) → ltb (distance x (n * (x / n + 1))) (distance x (n * (x / n))) ≡ u
-          → RoundsTo x n (cond t (x / n) (cond u (x / n + 1) (x / n + x / n % 2)))
+      go : (t : Bool) → ltb below above ≡ t → (u : Bool) → ltb above below ≡ u → RoundsTo x n (cond t (x / n) (cond u (x / n + 1) (x / n + x / n % 2)))
       go true e u f = low-rounds (omega (arith, div-add-mod x n, ltb-true)) (λ half. absurd (omega (arith, div-add-mod x n, ltb-true)))
       go false e true f = next-rounds (omega (arith, div-add-mod x n, ltb-true)) (λ half. absurd (omega (arith, div-add-mod x n, ltb-true)))
       go false e false f = half-rounds (omega (arith, div-add-mod x n, mod-lt x some, ltb-false))
@@ -88,21 +92,14 @@ pub rounded-rounds : (x n : ℕ) → RoundsTo x n (rounded x n)
 rounded-rounds x zero = rw (rounded-none x) (record { nearest = λ s. omega arith; even = λ s other same. refl })
 rounded-rounds x (suc n) = some-rounds x (suc n) (omega arith)
 
-module _ (x n : ℕ) (some : 0 < n) where
-  pub only-rounded : {r : ℕ} → RoundsTo x n r → r ≡ rounded x n
-  only-rounded a = at-most-one some a (rounded-rounds x n)
-
-  pub low-rounded : 2 * (x % n) ≤ n → (2 * (x % n) ≡ n → x / n % 2 ≡ 0) → x / n ≡ rounded x n
-  low-rounded near tie = only-rounded (low-rounds x n some near tie)
-
-  pub next-rounded : n ≤ 2 * (x % n) → (2 * (x % n) ≡ n → (x / n + 1) % 2 ≡ 0) → x / n + 1 ≡ rounded x n
-  next-rounded near tie = only-rounded (next-rounds x n some near tie)
+pub only-rounded : {x n r : ℕ} → 0 < n → RoundsTo x n r → r ≡ rounded x n
+only-rounded {x} {n} some a = at-most-one some a (rounded-rounds x n)
 
 -- ---- the share ----
 
 -- of one line or more
 pub share-exactly : (good n r : ℕ) → 0 < n → RoundsTo (1000 * good) n r ↔ (r ≡ shareOf good n)
-share-exactly good n r some = (only-rounded (1000 * good) n some, λ e. rw e (rounded-rounds (1000 * good) n))
+share-exactly good n r some = (only-rounded some, λ e. rw e (rounded-rounds (1000 * good) n))
 
 -- where no more lines are good than there are: 1000 would be nearer than any larger number
 pub share-most : (good n : ℕ) → good ≤ n → shareOf good n ≤ 1000

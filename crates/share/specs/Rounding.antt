@@ -9,7 +9,7 @@ use lib.Dec.{ltb}
 abbrev pub distance : ℕ → ℕ → ℕ
 distance x y = (x - y) + (y - x)
 
--- What it means that x / n is rounded to r: no whole number s is nearer to x / n than r is, and if another one is equally near, r is even.
+-- What it means that x / n, for n of 1 or more, is rounded to r: no whole number s is nearer to x / n than r is, and if another one is equally near, r is even.
 -- A distance |x / n - s| is taken times n, as |x - n s|, so that all numbers are whole.
 pub record RoundsTo (x n r : ℕ) : Type 0 where
   pub nearest : (s : ℕ) → distance x (n * r) ≤ distance x (n * s)

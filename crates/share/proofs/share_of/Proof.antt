@@ -1,11 +1,12 @@
--- `share::share_of` meets its contract: by what the division leaves, the number that it gives is the one that is rounded to; of no lines both are 0.
+-- `share::share_of` meets its contract: by what the division leaves, what it gives meets the definition of rounding, and only the share does; of no lines
+-- both are 0.
 -- Assumes nothing.
 use mathlib.Core.Path.{sym}
 use Prim.Native.Nat.{ℕ, _+_, _*_, _/_, _%_, _^_, _<_}
 use native.Mathlib.Nat.{div-le-self, mod-lt}
 use native.Mathlib.Omega.{arith}
 use borrow.Author.Needs.{needs}
-use Rattle.share.proofs.Rounding.{rounded-none, low-rounded, next-rounded}
+use Rattle.share.proofs.Rounding.{rounded-none, only-rounded, low-rounds, next-rounds}
 use Rattle.share.proofs.share_of.Statement.{statement}
 use Rattle.share.proofs.share_of.Tie as tie
 
@@ -37,22 +38,22 @@ mul-twice-rest c = record { fits = rest-fits _ _ (omega arith) (omega arith) }
 returns-2 : tie.Need-returns-2
 returns-2 c =
     let args = c .before .before .args in
-    low-rounded (1000 * args .good) (args .n) (omega arith) (omega arith) (λ half. absurd (omega arith))
+    only-rounded (omega arith) (low-rounds (1000 * args .good) (args .n) (omega arith) (omega arith) (λ half. absurd (omega arith)))
 
 returns-3 : tie.Need-returns-3
 returns-3 c =
     let args = c .before .before .before .args in
-    next-rounded (1000 * args .good) (args .n) (omega arith) (omega arith) (λ half. absurd (omega arith))
+    only-rounded (omega arith) (next-rounds (1000 * args .good) (args .n) (omega arith) (omega arith) (λ half. absurd (omega arith)))
 
 returns-4 : tie.Need-returns-4
 returns-4 c =
     let args = c .before .before .before .before .args in
-    low-rounded (1000 * args .good) (args .n) (omega arith) (omega arith) (λ half. omega arith)
+    only-rounded (omega arith) (low-rounds (1000 * args .good) (args .n) (omega arith) (omega arith) (λ half. omega arith))
 
 returns-5 : tie.Need-returns-5
 returns-5 c =
     let args = c .before .before .before .before .args in
-    next-rounded (1000 * args .good) (args .n) (omega arith) (omega arith) (λ half. omega arith)
+    only-rounded (omega arith) (next-rounds (1000 * args .good) (args .n) (omega arith) (omega arith) (λ half. omega arith))
 
 pub share-of-spec : {M : Type 1} → statement M
 share-of-spec = tie.close (tie.spec returns mul-thousands div-low add-next rem-twice-rest mul-twice-rest returns-2 returns-3 returns-4 returns-5)
