@@ -23,11 +23,12 @@ int main(void) {
     /* Model P: two lines, two levels. Level 1 is least, level 2 greatest. Line 0 is all of (level 1, line 1), line 1 is any of (level 2, line 0). */
     const uint8_t signs[2] = {0, 1};
     const uint8_t kinds[2] = {1, 0};
+    const uint8_t thresholds[2] = {0, 0}; /* none of the lines is a vote */
     const uint64_t words[4] = {1 << 1, 0, 0, 1 << 0};
     uint8_t file[64];
     uint64_t answer[WORDS];
 
-    solver_write(2, 2, signs, 2, kinds, 2, words, 4, file, sizeof file, answer);
+    solver_write(2, 2, signs, 2, kinds, 2, thresholds, 2, words, 4, file, sizeof file, answer);
     if (answer[NUMBER] != 0) {
         printf("written: refused %" PRIu64 "\n", answer[NUMBER]);
         return 1;
@@ -37,8 +38,9 @@ int main(void) {
 
     uint8_t signs_read[8];
     uint8_t kinds_read[64];
+    uint8_t thresholds_read[64];
     uint64_t words_read[512];
-    solver_read(file, length, signs_read, 8, kinds_read, 64, words_read, 512, answer);
+    solver_read(file, length, signs_read, 8, kinds_read, 64, thresholds_read, 64, words_read, 512, answer);
     printf("read: %" PRIu64 " lines, %" PRIu64 " levels, line 0 selects %" PRIu64 " at level 1\n", answer[LINES], answer[LEVELS], words_read[0]);
 
     /* No line at level 1, both at level 2. */

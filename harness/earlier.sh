@@ -1,6 +1,6 @@
 #!/usr/bin/env bash
 # The benchmark with the engine of an earlier commit beside the present one, in one run: harness/earlier.sh COMMIT [--quick].
-# Its C functions that judge must be declared as they are now.
+# Its C functions that judge must be declared as they are now. It is handed old files alone.
 set -euo pipefail
 if [ $# -lt 1 ]; then
     echo "usage: harness/earlier.sh COMMIT [--quick]" >&2

@@ -10,13 +10,14 @@
 #include <stddef.h>
 #include <stdint.h>
 
-/* Fills signs, kinds and words from a file; entries beyond its counts are kept. */
+/* Fills signs, kinds, thresholds and words from a file, thresholds with 0 from an old one; entries beyond its counts are kept. */
 void solver_read(const uint8_t *file, size_t file_len, uint8_t *signs, size_t signs_len, uint8_t *kinds, size_t kinds_len,
-                 uint64_t *words, size_t words_len, uint64_t answer[6]);
+                 uint8_t *thresholds, size_t thresholds_len, uint64_t *words, size_t words_len, uint64_t answer[6]);
 
-/* Writes the file of a model of n lines and d levels into a buffer; bytes after the file are kept. */
+/* Writes the new file of a model of n lines and d levels into a buffer; bytes after the file are kept. */
 void solver_write(size_t n, size_t d, const uint8_t *signs, size_t signs_len, const uint8_t *kinds, size_t kinds_len,
-                  const uint64_t *words, size_t words_len, uint8_t *buffer, size_t buffer_len, uint64_t answer[6]);
+                  const uint8_t *thresholds, size_t thresholds_len, const uint64_t *words, size_t words_len, uint8_t *buffer,
+                  size_t buffer_len, uint64_t answer[6]);
 
 /* One query at the arguments, level 1 first. */
 void solver_query(const uint8_t *file, size_t file_len, const uint64_t *arguments, size_t arguments_len, uint64_t answer[6]);

@@ -1,6 +1,7 @@
 //! The engine's operations: declarations that follow `include/solver.h`, and a safe function for each.
 //! The engine asks nothing of its callers but valid slices that do not overlap, which Rust's references are.
 
+use crate::random::full;
 use crate::Answer;
 
 mod raw {
@@ -12,6 +13,8 @@ mod raw {
             signs_len: usize,
             kinds: *mut u8,
             kinds_len: usize,
+            thresholds: *mut u8,
+            thresholds_len: usize,
             words: *mut u64,
             words_len: usize,
             answer: *mut u64,
@@ -23,6 +26,8 @@ mod raw {
             signs_len: usize,
             kinds: *const u8,
             kinds_len: usize,
+            thresholds: *const u8,
+            thresholds_len: usize,
             words: *const u64,
             words_len: usize,
             buffer: *mut u8,
@@ -55,7 +60,13 @@ fn answered(call: impl FnOnce(*mut u64)) -> Answer {
     Answer { number, set, count, length, lines, levels }
 }
 
-pub fn read(file: &[u8], signs: &mut [u8], kinds: &mut [u8], words: &mut [u64]) -> Answer {
+pub fn read(
+    file: &[u8],
+    signs: &mut [u8],
+    kinds: &mut [u8],
+    thresholds: &mut [u8],
+    words: &mut [u64],
+) -> Answer {
     answered(|answer| unsafe {
         raw::solver_read(
             file.as_ptr(),
@@ -64,6 +75,8 @@ pub fn read(file: &[u8], signs: &mut [u8], kinds: &mut [u8], words: &mut [u64]) 
             signs.len(),
             kinds.as_mut_ptr(),
             kinds.len(),
+            thresholds.as_mut_ptr(),
+            thresholds.len(),
             words.as_mut_ptr(),
             words.len(),
             answer,
@@ -71,7 +84,15 @@ pub fn read(file: &[u8], signs: &mut [u8], kinds: &mut [u8], words: &mut [u64]) 
     })
 }
 
-pub fn write(n: usize, d: usize, signs: &[u8], kinds: &[u8], words: &[u64], buffer: &mut [u8]) -> Answer {
+pub fn write(
+    n: usize,
+    d: usize,
+    signs: &[u8],
+    kinds: &[u8],
+    thresholds: &[u8],
+    words: &[u64],
+    buffer: &mut [u8],
+) -> Answer {
     answered(|answer| unsafe {
         raw::solver_write(
             n,
@@ -80,6 +101,8 @@ pub fn write(n: usize, d: usize, signs: &[u8], kinds: &[u8], words: &[u64], buff
             signs.len(),
             kinds.as_ptr(),
             kinds.len(),
+            thresholds.as_ptr(),
+            thresholds.len(),
             words.as_ptr(),
             words.len(),
             buffer.as_mut_ptr(),
@@ -144,6 +167,20 @@ pub fn page(file: &[u8], buffer: &mut [u8]) -> Answer {
     answered(|answer| unsafe {
         raw::solver_page(file.as_ptr(), file.len(), buffer.as_mut_ptr(), buffer.len(), answer)
     })
+}
+
+/// What every operation that takes a file answers, with nothing else to refuse if the file has n lines and d levels: reading, one
+/// query, the three judgings and the page.
+pub fn all_of_file(file: &[u8], n: usize, d: usize) -> [Answer; 6] {
+    let all = full(n);
+    [
+        read(file, &mut [0; 8], &mut [0; 64], &mut [0; 64], &mut [0; 512]),
+        query(file, &vec![0; d]),
+        plain(file, 0, all, u64::MAX),
+        built(file, 0, all),
+        lent(file, 0, all, &[], &[]),
+        page(file, &mut [0; 2665]),
+    ]
 }
 
 pub fn leaf_count(n: usize, h: usize) -> Answer {

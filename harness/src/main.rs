@@ -10,7 +10,7 @@ use std::time::Instant;
 use harness::baseline::page::page;
 use harness::baseline::{by_levels, whole};
 use harness::random::{self, full, Density, Random};
-use harness::reference::{Model, Tree};
+use harness::reference::{Kind, Model, Tree};
 use harness::{ffi, Answer};
 
 /// Where a plain run is cut off, so that each ends in reasonable time.
@@ -45,7 +45,7 @@ enum Judge {
     Whole,
     /// Rust with the engine's own algorithm.
     Levels,
-    /// The engine of an earlier commit.
+    /// The engine of an earlier commit. It may read old files alone.
     #[cfg(earlier_engine)]
     Earlier,
 }
@@ -57,6 +57,14 @@ const JUDGES: &[Judge] = &[
     #[cfg(earlier_engine)]
     Judge::Earlier,
 ];
+
+/// Those who judge files of this layout.
+fn judges_of(layout: Layout) -> &'static [Judge] {
+    match layout {
+        Layout::Old => JUDGES,
+        Layout::New => &[Judge::Engine, Judge::Whole, Judge::Levels],
+    }
+}
 
 impl Judge {
     fn name(self) -> &'static str {
@@ -163,6 +171,14 @@ impl Route {
     }
 }
 
+/// Of a file.
+#[derive(Clone, Copy, PartialEq)]
+enum Layout {
+    /// Without thresholds, and so without votes.
+    Old,
+    New,
+}
+
 /// A model to judge between empty and full, with the trees to lend for it.
 struct Subject {
     name: &'static str,
@@ -180,8 +196,14 @@ fn largest_lent(n: usize, h: usize) -> Vec<u8> {
     trees.find(|gaps| gaps.len() <= 1023).expect("S(1, h) has one leaf")
 }
 
+/// A model with signs that alternate, level 1 least, and these kinds, one line after the other and again.
+fn model_of(seed: u64, lines: usize, levels: usize, kinds: &[Kind], density: Density) -> Model {
+    let kinds: Vec<Kind> = kinds.iter().copied().cycle().take(lines).collect();
+    random::model_of_kinds(&mut Random::new(seed), &kinds, &random::alternating(levels, false), density, 0)
+}
+
 impl Subject {
-    fn new(name: &'static str, model: Model) -> Subject {
+    fn new(name: &'static str, layout: Layout, model: Model) -> Subject {
         let lines = model.lines();
         let (least, greatest) = (model.least_levels(), model.greatest_levels());
         let leaves = |h| Tree::built_in(lines, h).leaf_count();
@@ -189,7 +211,7 @@ impl Subject {
         Subject {
             name,
             lines,
-            file: model.file(),
+            file: if layout == Layout::Old { model.old_file() } else { model.file() },
             built_queries: leaves(least) * leaves(greatest),
             lent_queries: ((u.len() + 1) * (v.len() + 1)) as u64,
             u,
@@ -197,27 +219,38 @@ impl Subject {
         }
     }
 
-    /// Alternating signs, level 1 least, and alternating kinds.
-    fn random(seed: u64, lines: usize, levels: usize, name: &'static str, density: Density) -> Subject {
-        let mut random = Random::new(seed);
-        let all: Vec<bool> = (0..lines).map(|i| i % 2 == 1).collect();
-        let signs = random::alternating(levels, false);
-        Subject::new(name, random::model_of_kinds(&mut random, &all, &signs, density, 0))
+    /// Any and all lines in turn, with two or three operands a line.
+    fn sparse(layout: Layout, seed: u64, lines: usize, levels: usize) -> Subject {
+        let model = model_of(seed, lines, levels, &[Kind::Any, Kind::All], Density::Several);
+        Subject::new("sparse", layout, model)
     }
 
-    /// Two or three operands a line.
-    fn sparse(seed: u64, lines: usize, levels: usize) -> Subject {
-        Subject::random(seed, lines, levels, "sparse", Density::Several)
-    }
-
-    /// Half of all possible operands.
-    fn dense(seed: u64, lines: usize, levels: usize) -> Subject {
-        Subject::random(seed, lines, levels, "dense", Density::Share(50))
+    /// The same with half of all possible operands.
+    fn dense(layout: Layout, seed: u64, lines: usize, levels: usize) -> Subject {
+        let model = model_of(seed, lines, levels, &[Kind::Any, Kind::All], Density::Share(50));
+        Subject::new("dense", layout, model)
     }
 
     /// A model of the lower bound, where plain rounds are many.
-    fn hard(seed: u64, lines: usize, levels: usize) -> Subject {
-        Subject::new("hard", random::hard_model(&mut Random::new(seed), lines, levels / 2, 0))
+    fn hard(layout: Layout, seed: u64, lines: usize, levels: usize) -> Subject {
+        let model = random::hard_model(&mut Random::new(seed), lines, levels / 2, 0, 0);
+        Subject::new("hard", layout, model)
+    }
+
+    /// Any lines, all lines and votes of two in turn, with three operands a line.
+    fn votes(layout: Layout, seed: u64, lines: usize, levels: usize) -> Subject {
+        let kinds = [Kind::Any, Kind::All, Kind::AtLeast(2)];
+        Subject::new("2-of-3", layout, model_of(seed, lines, levels, &kinds, Density::Three))
+    }
+
+    /// The same with half of all possible operands, of which a vote needs more than half.
+    fn dense_votes(layout: Layout, seed: u64, lines: usize, levels: usize) -> Subject {
+        let kinds = [Kind::Any, Kind::All, Kind::AtLeast(1)];
+        let mut model = model_of(seed, lines, levels, &kinds, Density::Share(50));
+        for i in (2..lines).step_by(3) {
+            model.kinds[i] = Kind::AtLeast(model.operands[i].len() / 2 + 1);
+        }
+        Subject::new("dense", layout, model)
     }
 
     /// The most queries that judging may make.
@@ -257,44 +290,48 @@ fn time(seconds: f64) -> String {
     format!("{value:.digits$} {unit}")
 }
 
-fn heading(title: &str) {
+fn heading(title: &str, layout: Layout) {
     print!("\n{title}\n{:5} {:>5} {:>6} {:6} {:>9}", "route", "lines", "levels", "model", "queries");
-    for judge in JUDGES {
+    for judge in judges_of(layout) {
         print!(" {:>8}", judge.name());
     }
     print!(" {:>6}", "Mq/s");
-    for judge in &JUDGES[1..] {
+    for judge in &judges_of(layout)[1..] {
         print!(" {:>7}", judge.name());
     }
     println!(" growth");
 }
 
+/// Makes the model of a seed in a file of this layout, of so many lines and levels.
+type Make = fn(Layout, u64, usize, usize) -> Subject;
+
 /// Measures one row and prints it, with the engine's time as a multiple of the row's before. Gives that time.
 fn row(
     effort: Effort,
-    make: fn(u64, usize, usize) -> Subject,
+    (make, layout): (Make, Layout),
     (lines, levels): (usize, usize),
     route: Route,
     before: Option<f64>,
 ) -> Option<f64> {
-    let first = make(1, lines, levels);
+    let first = make(layout, 1, lines, levels);
     let most = first.most_queries(route);
     if most > effort.most_queries {
         return None;
     }
     let count = if most > 1_000_000 { effort.large_models } else { effort.models };
-    let models: Vec<Subject> = (1..=count).map(|seed| make(seed, lines, levels)).collect();
+    let models: Vec<Subject> = (1..=count).map(|seed| make(layout, seed, lines, levels)).collect();
+    let judges = judges_of(layout);
     let mut total = 0;
     for model in &models {
         let answer = model.judged(Judge::Engine, route);
-        for &judge in JUDGES {
+        for &judge in judges {
             assert_eq!(answer, model.judged(judge, route), "the engine and {judge:?} judge differently");
         }
         // A plain run that was cut off has made as many queries as it may.
         total += if answer.number == 10 { CEILING } else { answer.count };
     }
     let judges: Vec<_> =
-        JUDGES.iter().map(|&judge| move |model: &Subject| model.judged(judge, route)).collect();
+        judges.iter().map(|&judge| move |model: &Subject| model.judged(judge, route)).collect();
     let judges: Vec<&dyn Fn(&Subject) -> Answer> = judges.iter().map(|judge| judge as _).collect();
     let Times { seconds, ratios } = measure(effort, &models, &judges);
     let queries = total as f64 / models.len() as f64;
@@ -321,7 +358,7 @@ fn print_pages(effort: Effort) {
     );
     for (lines, levels) in [(16, 2), (64, 1), (64, 2), (64, 4)] {
         let models: Vec<Subject> =
-            (1..=effort.models).map(|seed| Subject::sparse(seed, lines, levels)).collect();
+            (1..=effort.models).map(|seed| Subject::sparse(Layout::Old, seed, lines, levels)).collect();
         let made = |make: fn(&[u8], &mut [u8]) -> Answer, model: &Subject| {
             let mut buffer = [0; 2665];
             let answer = make(black_box(&model.file), &mut buffer);
@@ -366,9 +403,7 @@ impl Deepest {
             Deepest::Lent => 1,
             Deepest::Built => 64,
         };
-        let signs = random::alternating(8, false);
-        let all = vec![false; lines];
-        let file = random::model_of_kinds(&mut Random::new(7), &all, &signs, Density::Few, 0).file();
+        let file = model_of(7, lines, 8, &[Kind::Any], Density::Few).old_file();
         match self {
             Deepest::Lent => judge.lent(&file, 0, 1, &[4; 1023], &[4; 1023]).count == 1024 * 1024,
             Deepest::Built => judge.built(&file, 0, u64::MAX).count == 2645 * 2645,
@@ -440,36 +475,54 @@ fn benchmark(effort: Effort) {
     println!("the engine's own algorithm (levels); by an earlier engine, where there is one (earlier). Each is the mean over {models} random");
     println!("models ({large_models} where one takes over a million queries), and of that the median of several times in turn. Then the millions");
     println!("of queries a second, and the medians of the engine's time / each other's; growth: its time / the row's before. Signs");
-    println!("and kinds alternate.");
+    println!("and kinds alternate, and the files are old ones, but where the title says otherwise.");
 
-    for (route, title) in [
-        (Route::Built, "by built-in trees, 64 lines"),
-        (Route::Lent, "by lent trees, 64 lines (the largest built-in trees that may be lent)"),
-        (Route::Plain, "plainly, 64 lines, ceiling 200,000"),
-    ] {
-        heading(title);
+    let routes = [Route::Built, Route::Lent, Route::Plain];
+    let old = |make: Make| (make, Layout::Old);
+    for (route, title) in routes.into_iter().zip([
+        "by built-in trees, 64 lines",
+        "by lent trees, 64 lines (the largest built-in trees that may be lent)",
+        "plainly, 64 lines, ceiling 200,000",
+    ]) {
+        heading(title, Layout::Old);
         for levels in [2, 4, 6, 8] {
-            row(effort, Subject::dense, (64, levels), route, None);
-            row(effort, Subject::sparse, (64, levels), route, None);
+            row(effort, old(Subject::dense), (64, levels), route, None);
+            row(effort, old(Subject::sparse), (64, levels), route, None);
             if route == Route::Plain {
-                row(effort, Subject::hard, (64, levels), route, None);
+                row(effort, old(Subject::hard), (64, levels), route, None);
             }
         }
     }
 
-    heading("growth with the lines, 4 levels");
-    for route in [Route::Built, Route::Lent, Route::Plain] {
+    heading("growth with the lines, 4 levels", Layout::Old);
+    for route in routes {
         let mut before = None;
         for lines in [8, 16, 32, 64] {
-            before = row(effort, Subject::sparse, (lines, 4), route, before);
+            before = row(effort, old(Subject::sparse), (lines, 4), route, before);
         }
     }
 
-    heading("growth with the levels, 16 lines");
-    for route in [Route::Built, Route::Lent, Route::Plain] {
+    heading("growth with the levels, 16 lines", Layout::Old);
+    for route in routes {
         let mut before = None;
         for levels in 1..=8 {
-            before = row(effort, Subject::sparse, (16, levels), route, before);
+            before = row(effort, old(Subject::sparse), (16, levels), route, before);
+        }
+    }
+
+    let new = |make: Make| (make, Layout::New);
+    heading("the same models in new files", Layout::New);
+    for route in routes {
+        row(effort, new(Subject::sparse), (16, 1), route, None);
+        row(effort, new(Subject::dense), (64, 2), route, None);
+        row(effort, new(Subject::sparse), (64, 4), route, None);
+    }
+
+    heading("votes: a third of the lines each any, all and at least two of three, or more than half of many (dense)", Layout::New);
+    for route in routes {
+        for levels in [2, 4, 6] {
+            row(effort, new(Subject::dense_votes), (64, levels), route, None);
+            row(effort, new(Subject::votes), (64, levels), route, None);
         }
     }
 

@@ -3,7 +3,7 @@
 use crate::reference::game::winning_lines;
 use crate::reference::model::Parts;
 use crate::reference::tree::lower_bound_model;
-use crate::reference::{set_of, Model, Operand, Set, Tree};
+use crate::reference::{set_of, Kind, Model, Operand, Set, Tree};
 
 /// SplitMix64.
 pub struct Random {
@@ -61,6 +61,7 @@ pub enum Density {
     Few,
     /// Two or three.
     Several,
+    Three,
     /// Each possible operand with this chance in a hundred, and at least one.
     Share(usize),
 }
@@ -89,6 +90,45 @@ fn idle_share(random: &mut Random) -> usize {
     }
 }
 
+/// How many of a hundred lines with operands are votes: none in two models of five, all in one of twenty.
+fn vote_share(random: &mut Random) -> usize {
+    match random.between(0, 19) {
+        0..=7 => 0,
+        8 => 100,
+        _ => random.between(10, 60),
+    }
+}
+
+/// What a vote of so many operands needs: often 1, 2 or all of them.
+fn threshold(random: &mut Random, operands: usize) -> usize {
+    let t = match random.between(0, 9) {
+        0 => 1,
+        1 | 2 => 2,
+        3 => operands,
+        _ => random.between(1, operands),
+    };
+    t.min(operands).min(255)
+}
+
+/// Makes a vote of each line that has operands, with a chance of `votes` in a hundred.
+fn add_votes(random: &mut Random, kinds: &mut [Kind], operands: &[Vec<Operand>], votes: usize) {
+    for (kind, operands) in kinds.iter_mut().zip(operands) {
+        // With no votes nothing is drawn here, for the same reason as with no idle lines below.
+        if votes > 0 && !operands.is_empty() && random.chance(votes) {
+            *kind = Kind::AtLeast(threshold(random, operands.len()));
+        }
+    }
+}
+
+/// Kind all with a chance of `share` in a hundred, else any.
+fn any_or_all(random: &mut Random, share: usize) -> Kind {
+    if random.chance(share) {
+        Kind::All
+    } else {
+        Kind::Any
+    }
+}
+
 /// Operands of line i: none with a chance of `idle` in a hundred, else one or more.
 fn operands(
     random: &mut Random,
@@ -106,6 +146,7 @@ fn operands(
     let wanted = match density {
         Density::Few => random.between(1, 2),
         Density::Several => random.between(2, 3),
+        Density::Three => 3,
         Density::Share(percent) => {
             for level in 0..d {
                 let chosen = (0..n).filter(|_| random.chance(percent));
@@ -127,30 +168,33 @@ fn operands(
     operands
 }
 
-/// A model of n lines with these signs, some lines idle.
+/// A model of n lines with these signs, some lines idle and some votes.
 pub fn model(random: &mut Random, n: usize, greatest: &[bool], density: Density) -> Model {
-    // The share of "all" lines; now and then all lines are of one kind.
+    // The share of "all" lines among those that are no votes; now and then all are of one kind.
     let share = match random.between(0, 19) {
         0 => 0,
         1 => 100,
         _ => random.between(30, 70),
     };
-    let all: Vec<bool> = (0..n).map(|_| random.chance(share)).collect();
+    let kinds: Vec<Kind> = (0..n).map(|_| any_or_all(random, share)).collect();
     let idle = idle_share(random);
-    model_of_kinds(random, &all, greatest, density, idle)
+    let mut model = model_of_kinds(random, &kinds, greatest, density, idle);
+    let votes = vote_share(random);
+    add_votes(random, &mut model.kinds, &model.operands, votes);
+    model
 }
 
 /// A model with these kinds of its lines and these signs, each line idle with a chance of `idle` in a hundred.
 pub fn model_of_kinds(
     random: &mut Random,
-    all: &[bool],
+    kinds: &[Kind],
     greatest: &[bool],
     density: Density,
     idle: usize,
 ) -> Model {
-    let (n, d) = (all.len(), greatest.len());
+    let (n, d) = (kinds.len(), greatest.len());
     let operands = (0..n).map(|i| operands(random, i, n, d, density, idle)).collect();
-    Model { greatest: greatest.to_vec(), all: all.to_vec(), operands }
+    Model { greatest: greatest.to_vec(), kinds: kinds.to_vec(), operands }
 }
 
 /// Some density for n lines. With few lines, and with many operands in many lines, most sets are empty or full, which
@@ -167,9 +211,9 @@ pub fn density(random: &mut Random, n: usize) -> Density {
 }
 
 /// A model of n lines and 2 × h levels on which the routes need many steps: the lower bound's model for a random tree,
-/// or its dual, beside lines with few operands, each idle with a chance of `idle` in a hundred. The lines stand in
-/// random order.
-pub fn hard_model(random: &mut Random, n: usize, h: usize, idle: usize) -> Model {
+/// or its dual, beside lines with few operands, each idle with a chance of `idle` in a hundred and else a vote with one of
+/// `votes`. The lines stand in random order.
+pub fn hard_model(random: &mut Random, n: usize, h: usize, idle: usize, votes: usize) -> Model {
     let leaves = random.between(n.div_ceil(2), n);
     let gaps = gaps(random, h, leaves - 1);
     let mut model = lower_bound_model(&Tree::from_gaps(h, &gaps).expect("the gaps are the tree's"));
@@ -177,15 +221,17 @@ pub fn hard_model(random: &mut Random, n: usize, h: usize, idle: usize) -> Model
         model = model.dual();
     }
     for i in leaves..n {
-        model.all.push(random.chance(50));
+        model.kinds.push(any_or_all(random, 50));
         model.operands.push(operands(random, i, n, 2 * h, Density::Few, idle));
     }
+    add_votes(random, &mut model.kinds[leaves..], &model.operands[leaves..], votes);
     let mut place: Vec<usize> = (0..n).collect();
     shuffle(random, &mut place);
-    let mut moved = Model { greatest: model.greatest, all: vec![false; n], operands: vec![Vec::new(); n] };
+    let mut moved =
+        Model { greatest: model.greatest, kinds: vec![Kind::Any; n], operands: vec![Vec::new(); n] };
     for (i, of_line) in model.operands.iter().enumerate() {
         let move_to = |o: &Operand| Operand { level: o.level, line: place[o.line] };
-        moved.all[place[i]] = model.all[i];
+        moved.kinds[place[i]] = model.kinds[i];
         moved.operands[place[i]] = of_line.iter().map(move_to).collect();
         moved.operands[place[i]].sort();
     }
@@ -193,15 +239,23 @@ pub fn hard_model(random: &mut Random, n: usize, h: usize, idle: usize) -> Model
 }
 
 /// A model of n lines of which so many are good between no line and all lines, in any places. Level 1 is least and level 2
-/// greatest; a good line is all of none or any of itself at level 2, another one any of none or all of itself at level 1.
+/// greatest; a good line is all of none, any of itself at level 2 or one of itself at both levels, another one any of none, all
+/// of itself at level 1 or two of itself at both levels.
 pub fn model_with_good_lines(random: &mut Random, n: usize, good: usize) -> Model {
     let mut lines: Vec<bool> = (0..n).map(|i| i < good).collect();
     shuffle(random, &mut lines);
-    let mut model = Model { greatest: vec![false, true], all: Vec::new(), operands: Vec::new() };
+    let mut model = Model { greatest: vec![false, true], kinds: Vec::new(), operands: Vec::new() };
     for (line, is_good) in lines.into_iter().enumerate() {
-        let idle = random.chance(50);
-        model.all.push(is_good == idle);
-        model.operands.push(if idle { Vec::new() } else { vec![Operand { level: is_good as usize, line }] });
+        let (kind, levels) = match (random.between(0, 2), is_good) {
+            (0, true) => (Kind::All, vec![]),
+            (0, false) => (Kind::Any, vec![]),
+            (1, true) => (Kind::Any, vec![1]),
+            (1, false) => (Kind::All, vec![0]),
+            (_, true) => (Kind::AtLeast(1), vec![0, 1]),
+            (_, false) => (Kind::AtLeast(2), vec![0, 1]),
+        };
+        model.kinds.push(kind);
+        model.operands.push(levels.into_iter().map(|level| Operand { level, line }).collect());
     }
     model
 }
@@ -209,12 +263,21 @@ pub fn model_with_good_lines(random: &mut Random, n: usize, good: usize) -> Mode
 /// A model of n lines and d levels of any of these sorts.
 pub fn any_model(random: &mut Random, n: usize, d: usize) -> Model {
     if d.is_multiple_of(2) && random.chance(25) {
-        let idle = idle_share(random);
-        return hard_model(random, n, d / 2, idle);
+        let (idle, votes) = (idle_share(random), vote_share(random));
+        return hard_model(random, n, d / 2, idle, votes);
     }
     let signs = signs(random, d);
     let density = density(random, n);
     model(random, n, &signs, density)
+}
+
+/// The file of a model; where it has no votes, as often its old file.
+pub fn file(random: &mut Random, model: &Model) -> Vec<u8> {
+    if !model.has_votes() && random.chance(50) {
+        model.old_file()
+    } else {
+        model.file()
+    }
 }
 
 // ---- bounds ----
@@ -262,8 +325,8 @@ pub struct Case {
 }
 
 impl Case {
-    pub fn new(model: Model, (a, b): (u64, u64)) -> Case {
-        let file = model.file();
+    pub fn new(random: &mut Random, model: Model, (a, b): (u64, u64)) -> Case {
+        let file = file(random, &model);
         Case { model, file, a, b }
     }
 
@@ -278,7 +341,7 @@ impl Case {
 pub fn case(random: &mut Random, n: usize, d: usize) -> Case {
     let model = any_model(random, n, d);
     let bounds = bounds(random, n);
-    Case::new(model, bounds)
+    Case::new(random, model, bounds)
 }
 
 /// A case for the nested fixpoint by its definition, which makes 2 to the power n × d queries. Most small models have
@@ -363,41 +426,105 @@ fn bad_count(random: &mut Random, most: usize, largest: usize) -> usize {
     }
 }
 
-/// Damages a file of n lines and d levels so that refusal `number` applies. Refusal 7 cannot apply to 64 lines, whose
-/// files stay as they are. Of several damages the later refusals' go first, as the others cut the file or move it.
+/// Whether a file of n lines and d levels is an old one, by its third offset.
+pub fn is_old(file: &[u8], n: usize, d: usize) -> bool {
+    file[12..16] == ((16 + d + n) as u32).to_le_bytes()
+}
+
+/// What can be wrong with a file, by the number of its refusal, in the order in which it is looked for.
+pub const FILE_DAMAGES: [u64; 8] = [1, 2, 3, 4, 5, 6, 7, 14];
+
+/// Damages a file of n lines and d levels so that refusal `number` applies. Refusal 7 cannot apply to 64 lines, nor 14 to an old
+/// file; such files stay as they are. Of several damages the later refusals' go first, as the others cut the file or move it.
 pub fn damage_file(random: &mut Random, file: &mut Vec<u8>, n: usize, d: usize, number: u64) {
-    let words_at = 16 + d + n;
+    let old = is_old(file, n, d);
+    let (kinds_at, record) = (16 + d, if old { 1 } else { 2 });
+    let words_at = kinds_at + record * n;
     match number {
         1 => file.truncate(random.between(0, 15)),
         2 => file[0..2].copy_from_slice(&(bad_count(random, 64, 65535) as u16).to_le_bytes()),
         3 => file[2..4].copy_from_slice(&(bad_count(random, 8, 65535) as u16).to_le_bytes()),
-        4 => {
-            let byte = random.between(4, 15);
+        4 if random.chance(50) => {
+            let byte = random.between(4, 11);
             file[byte] ^= random.between(1, 255) as u8;
         }
-        5 => match random.between(0, 3) {
+        4 => {
+            // A third offset that is neither the old one nor the new one: near them, or far.
+            let right = [kinds_at + n, kinds_at + 2 * n];
+            let mut offset = right[0];
+            while right.contains(&offset) {
+                offset = match random.between(0, 2) {
+                    0 => random.between(kinds_at, kinds_at + 3 * n),
+                    1 => right[random.between(0, 1)] + [256, 1 << 16, 1 << 24][random.between(0, 2)],
+                    _ => random.word() as u32 as usize,
+                };
+            }
+            file[12..16].copy_from_slice(&(offset as u32).to_le_bytes());
+        }
+        5 => match random.between(0, 4) {
             0 => file.truncate(file.len() - 1),
             1 => file.push(0),
             2 => file.truncate(random.between(16, file.len() - 1)),
+            // The length that the other layout has.
+            3 if old => file.extend(random.bytes(n)),
+            3 => file.truncate(file.len() - n),
             _ => {
                 let extra = random.between(1, 5000);
                 file.extend(random.bytes(extra));
             }
         },
-        6 => file[random.between(16, words_at - 1)] = random.between(2, 255) as u8,
+        6 if random.chance(50) => file[random.between(16, kinds_at - 1)] = over(random, 1),
+        6 => {
+            let largest_kind = if old { 1 } else { 2 };
+            file[kinds_at + record * random.between(0, n - 1)] = over(random, largest_kind);
+        }
         7 if n < 64 => {
             let word = words_at + 8 * random.between(0, n * d - 1);
             let line = random.between(n, 63);
             file[word + line / 8] |= 1 << (line % 8);
         }
+        14 if !old => {
+            let i = random.between(0, n - 1);
+            let words = &file[words_at + 8 * d * i..words_at + 8 * d * (i + 1)];
+            let operands = words.iter().map(|byte| byte.count_ones() as usize).sum();
+            let (kind, t) = bad_threshold(random, operands);
+            (file[kinds_at + 2 * i], file[kinds_at + 2 * i + 1]) = (kind, t);
+        }
         _ => {}
+    }
+}
+
+/// A file of n lines, fewer than 64, and d levels, to which refusal `number` applies and no other.
+pub fn damaged_file(random: &mut Random, n: usize, d: usize, number: u64) -> Vec<u8> {
+    let model = any_model(random, n, d);
+    let mut file = if number == 14 { model.file() } else { file(random, &model) };
+    damage_file(random, &mut file, n, d, number);
+    file
+}
+
+/// A byte over `most`, often the next one.
+fn over(random: &mut Random, most: u8) -> u8 {
+    if random.chance(30) {
+        most + 1
+    } else {
+        random.between(most as usize + 1, 255) as u8
+    }
+}
+
+/// A kind and a threshold that do not go together in a line of so many operands.
+fn bad_threshold(random: &mut Random, operands: usize) -> (u8, u8) {
+    match random.between(0, 3) {
+        0 => (random.between(0, 1) as u8, over(random, 0)),
+        1 if operands < 255 => (2, operands as u8 + 1),
+        2 if operands < 255 => (2, over(random, operands as u8)),
+        _ => (2, 0),
     }
 }
 
 /// Damages a file of n lines and d levels in one to three ways.
 pub fn damage_file_often(random: &mut Random, file: &mut Vec<u8>, n: usize, d: usize) {
     let ways = random.between(1, 3);
-    let mut numbers: Vec<u64> = (0..ways).map(|_| random.between(1, 7) as u64).collect();
+    let mut numbers: Vec<u64> = (0..ways).map(|_| FILE_DAMAGES[random.between(0, 7)]).collect();
     numbers.sort();
     numbers.dedup();
     for number in numbers.into_iter().rev() {
@@ -415,7 +542,7 @@ pub struct Written {
 
 /// What can be wrong with it, by the number of its refusal; a buffer too short is not among these. Of several damages
 /// the last of these goes last.
-pub const WRITTEN_DAMAGES: [u64; 5] = [2, 3, 6, 7, 13];
+pub const WRITTEN_DAMAGES: [u64; 6] = [2, 3, 6, 7, 14, 13];
 
 /// Damages what is to be written so that refusal `number` applies; 7 cannot apply to 64 lines.
 pub fn damage_written(random: &mut Random, written: &mut Written, number: u64) {
@@ -424,20 +551,23 @@ pub fn damage_written(random: &mut Random, written: &mut Written, number: u64) {
     match number {
         2 => written.n = bad_count(random, 64, usize::MAX),
         3 => written.d = bad_count(random, 8, usize::MAX),
-        6 => {
-            let byte = random.between(2, 255) as u8;
-            match random.between(0, n + d - 1) {
-                at if at < d => parts.signs[at] = byte,
-                at => parts.kinds[at - d] = byte,
-            }
-        }
+        6 if random.chance(50) => parts.signs[random.between(0, d - 1)] = over(random, 1),
+        6 => parts.kinds[random.between(0, n - 1)] = over(random, 2),
         7 if n < 64 => parts.words[random.between(0, n * d - 1)] |= 1 << random.between(n, 63),
-        13 => match random.between(0, 5) {
+        14 => {
+            let i = random.between(0, n - 1);
+            let operands =
+                parts.words[d * i..d * (i + 1)].iter().map(|word| word.count_ones() as usize).sum();
+            (parts.kinds[i], parts.thresholds[i]) = bad_threshold(random, operands);
+        }
+        13 => match random.between(0, 7) {
             0 => parts.signs.push(0),
             1 => parts.kinds.push(1),
-            2 => parts.words.push(1),
-            3 => parts.signs.truncate(d - 1),
-            4 => parts.kinds.truncate(random.between(0, n - 1)),
+            2 => parts.thresholds.push(0),
+            3 => parts.words.push(1),
+            4 => parts.signs.truncate(d - 1),
+            5 => parts.kinds.truncate(random.between(0, n - 1)),
+            6 => parts.thresholds.truncate(random.between(0, n - 1)),
             _ => parts.words.truncate(random.between(0, n * d - 1)),
         },
         _ => {}

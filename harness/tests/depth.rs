@@ -7,16 +7,19 @@ use std::thread;
 use harness::random::{self, full, Density, Random};
 use harness::reference::game::winning_lines;
 use harness::reference::restricted::restricted;
-use harness::reference::{set_of, word_of, Model, Tree};
+use harness::reference::{set_of, word_of, Kind, Model, Operand, Tree};
 use harness::{ffi, Answer};
 
 const GAPS: usize = 1023;
 
-/// A model of so many lines, line 1 idle, and eight levels of alternating signs, level 8 greatest or least.
+/// A model of so many lines and eight levels of alternating signs, level 8 greatest or least. Line 1 is idle, and line 2 five of
+/// itself at each level.
 fn model(lines: usize, outermost_greatest: bool) -> Model {
     let signs = random::alternating(8, !outermost_greatest);
     let mut model = random::model(&mut Random::new(801), lines, &signs, Density::Several);
-    model.operands[1].clear();
+    (model.kinds[1], model.operands[1]) = (Kind::All, Vec::new());
+    let at_each_level = (0..8).map(|level| Operand { level, line: 2 }).collect();
+    (model.kinds[2], model.operands[2]) = (Kind::AtLeast(5), at_each_level);
     model
 }
 

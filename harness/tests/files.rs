@@ -1,33 +1,43 @@
 //! Reading and writing against the reference: answers, and every byte and word that was lent.
 
 use harness::lent::{Lent, Seen};
-use harness::random::{self, Random, Written, WRITTEN_DAMAGES};
+use harness::random::{self, Random, Written, FILE_DAMAGES, WRITTEN_DAMAGES};
 use harness::reference::model::Parts;
 use harness::{ffi, reference, Answer};
 
 /// Reads a file into slices of these lengths, by the engine and by the reference, and compares all they leave.
-fn read_both(random: &mut Random, file: &[u8], lengths: [usize; 3]) -> Answer {
-    let mut signs = Lent::new(lengths[0], |count| random.bytes(count));
-    let mut kinds = Lent::new(lengths[1], |count| random.bytes(count));
-    let mut words = Lent::new(lengths[2], |count| random.words(count));
-    let mut expected = (signs.clone(), kinds.clone(), words.clone());
-    let answer = ffi::read(file, signs.slice(), kinds.slice(), words.slice());
-    let (s, k, w) = (expected.0.slice(), expected.1.slice(), expected.2.slice());
-    assert_eq!(answer, reference::read(file, s, k, w), "{lengths:?} {file:?}");
-    assert_eq!((signs, kinds, words), expected, "{lengths:?} {file:?}");
+fn read_both(random: &mut Random, file: &[u8], lengths: [usize; 4]) -> Answer {
+    let mut bytes =
+        [lengths[0], lengths[1], lengths[2]].map(|len| Lent::new(len, |count| random.bytes(count)));
+    let mut words = Lent::new(lengths[3], |count| random.words(count));
+    let mut expected = (bytes.clone(), words.clone());
+    let [signs, kinds, thresholds] = bytes.each_mut().map(Lent::slice);
+    let answer = ffi::read(file, signs, kinds, thresholds, words.slice());
+    let [signs, kinds, thresholds] = expected.0.each_mut().map(Lent::slice);
+    let expected_answer = reference::read(file, signs, kinds, thresholds, expected.1.slice());
+    assert_eq!(answer, expected_answer, "{lengths:?} {file:?}");
+    assert_eq!((bytes, words), expected, "{lengths:?} {file:?}");
     answer
 }
 
+/// Slices as long as those of the largest model.
+const LARGEST: [usize; 4] = [8, 64, 64, 512];
+
 /// Writes into a buffer of this length, by the engine and by the reference, and compares all they leave.
 fn write_both(random: &mut Random, written: &Written, length: usize) -> Answer {
-    let Written { n, d, parts: Parts { signs, kinds, words } } = written;
+    let Written { n, d, parts: Parts { signs, kinds, thresholds, words } } = written;
     let mut buffer = Lent::new(length, |count| random.bytes(count));
     let mut expected = buffer.clone();
-    let answer = ffi::write(*n, *d, signs, kinds, words, buffer.slice());
-    let expected_answer = reference::write(*n, *d, signs, kinds, words, expected.slice());
+    let answer = ffi::write(*n, *d, signs, kinds, thresholds, words, buffer.slice());
+    let expected_answer = reference::write(*n, *d, signs, kinds, thresholds, words, expected.slice());
     assert_eq!(answer, expected_answer, "{length} {written:?}");
     assert_eq!(buffer, expected, "{length} {written:?}");
     answer
+}
+
+fn some_file(random: &mut Random, n: usize, d: usize) -> Vec<u8> {
+    let model = random::any_model(random, n, d);
+    random::file(random, &model)
 }
 
 fn some_written(random: &mut Random, n: usize, d: usize) -> Written {
@@ -35,7 +45,7 @@ fn some_written(random: &mut Random, n: usize, d: usize) -> Written {
 }
 
 fn file_length(n: usize, d: usize) -> usize {
-    16 + d + n + 8 * n * d
+    16 + d + 2 * n + 8 * n * d
 }
 
 #[test]
@@ -43,9 +53,10 @@ fn every_size_is_read() {
     let mut random = Random::new(201);
     for n in 1..=64 {
         for d in 1..=8 {
-            let file = random::any_model(&mut random, n, d).file();
+            let file = some_file(&mut random, n, d);
             for extra in [0, random.between(1, 40)] {
-                let answer = read_both(&mut random, &file, [d + extra, n + extra, n * d + extra]);
+                let lengths = [d + extra, n + extra, n + extra, n * d + extra];
+                let answer = read_both(&mut random, &file, lengths);
                 assert_eq!((answer.number, answer.lines, answer.levels), (0, n as u64, d as u64));
             }
         }
@@ -57,9 +68,9 @@ fn short_slices_are_refused_when_reading() {
     let mut random = Random::new(202);
     for _ in 0..500 {
         let (n, d) = (random.between(1, 64), random.between(1, 8));
-        let file = random::any_model(&mut random, n, d).file();
-        let exact = [d, n, n * d];
-        for short in 0..3 {
+        let file = some_file(&mut random, n, d);
+        let exact = [d, n, n, n * d];
+        for short in 0..4 {
             for length in [0, exact[short] - 1, random.between(0, exact[short] - 1)] {
                 let mut lengths = exact.map(|length| length + random.between(0, 3));
                 lengths[short] = length;
@@ -73,12 +84,10 @@ fn short_slices_are_refused_when_reading() {
 fn each_damage_of_a_file_has_its_number() {
     let mut random = Random::new(203);
     for _ in 0..300 {
-        for number in 1..=7 {
-            // Refusal 7 needs a line of n or more, and so fewer than 64 lines.
+        for number in FILE_DAMAGES {
             let (n, d) = (random.between(1, 63), random.between(1, 8));
-            let mut file = random::any_model(&mut random, n, d).file();
-            random::damage_file(&mut random, &mut file, n, d, number);
-            assert_eq!(read_both(&mut random, &file, [8, 64, 512]).number, number, "{file:?}");
+            let file = random::damaged_file(&mut random, n, d, number);
+            assert_eq!(read_both(&mut random, &file, LARGEST).number, number, "{file:?}");
         }
     }
 }
@@ -90,16 +99,12 @@ fn the_first_of_several_refusals_answers_when_reading() {
     for _ in 0..20_000 {
         let (n, d) = (random.between(1, 64), random.between(1, 8));
         let (n, d) = if random.chance(70) { (n.min(6), d.min(3)) } else { (n, d) };
-        let mut file = random::any_model(&mut random, n, d).file();
+        let mut file = some_file(&mut random, n, d);
         random::damage_file_often(&mut random, &mut file, n, d);
-        let lengths = if random.chance(30) {
-            [random.between(0, 8), random.between(0, 64), random.between(0, 512)]
-        } else {
-            [8, 64, 512]
-        };
+        let lengths = if random.chance(30) { LARGEST.map(|most| random.between(0, most)) } else { LARGEST };
         seen.note(read_both(&mut random, &file, lengths));
     }
-    seen.assert_each(&[1, 2, 3, 4, 5, 6, 7], 500);
+    seen.assert_each(&FILE_DAMAGES, 500);
 }
 
 #[test]
@@ -108,11 +113,13 @@ fn bytes_at_random_are_read_as_the_reference_does() {
     let mut seen = Seen::default();
     for _ in 0..20_000 {
         let (n, d) = (random.between(0, 3), random.between(0, 3));
+        let records = n * random.between(1, 2);
         let mut file = vec![n as u8, 0, d as u8, 0, 16, 0, 0, 0];
-        file.extend([16 + d as u8, 0, 0, 0, (16 + d + n) as u8, 0, 0, 0]);
-        // Bytes up to 1 or 2 may be signs and kinds; words with one such byte may select lines there are.
-        let most = [1, 1, 2, 255][random.between(0, 3)];
-        file.extend((0..d + n).map(|_| random.between(0, most) as u8));
+        file.extend([16 + d as u8, 0, 0, 0, (16 + d + records) as u8, 0, 0, 0]);
+        // Bytes up to 1, 2 or 3 may be signs, kinds and thresholds; words with one such byte may select lines there are.
+        let most = [1, 1, 2, 3, 255][random.between(0, 4)];
+        file.extend((0..d).map(|_| random.between(0, most.min(2)) as u8));
+        file.extend((0..records).map(|_| random.between(0, most) as u8));
         for _ in 0..n * d {
             let word = if most == 255 { random.word() } else { random.between(0, most) as u64 };
             file.extend(word.to_le_bytes());
@@ -120,9 +127,9 @@ fn bytes_at_random_are_read_as_the_reference_does() {
         if random.chance(20) {
             file.truncate(random.between(0, file.len()));
         }
-        seen.note(read_both(&mut random, &file, [8, 64, 512]));
+        seen.note(read_both(&mut random, &file, LARGEST));
     }
-    seen.assert_each(&[0, 1, 2, 3, 5, 6, 7], 20);
+    seen.assert_each(&[0, 1, 2, 3, 5, 6, 7, 14], 20);
 }
 
 #[test]
@@ -151,7 +158,7 @@ fn each_damage_has_its_number_when_writing() {
             let (n, d) = (random.between(1, 63), random.between(1, 8));
             let mut written = some_written(&mut random, n, d);
             random::damage_written(&mut random, &mut written, number);
-            assert_eq!(write_both(&mut random, &written, 4184).number, number, "{written:?}");
+            assert_eq!(write_both(&mut random, &written, 4248).number, number, "{written:?}");
         }
     }
 }
@@ -169,10 +176,10 @@ fn the_first_of_several_refusals_answers_when_writing() {
                 random::damage_written(&mut random, &mut written, number);
             }
         }
-        let length = if random.chance(50) { random.between(0, file_length(n, d)) } else { 4184 };
+        let length = if random.chance(50) { random.between(0, file_length(n, d)) } else { 4248 };
         seen.note(write_both(&mut random, &written, length));
     }
-    seen.assert_each(&[0, 2, 3, 13, 6, 7, 12], 500);
+    seen.assert_each(&[0, 2, 3, 13, 6, 7, 14, 12], 500);
 }
 
 #[test]
@@ -182,29 +189,36 @@ fn what_was_written_is_read_back() {
         for d in 1..=8 {
             let Written { parts, .. } = some_written(&mut random, n, d);
             let mut file = vec![0xee; file_length(n, d)];
-            let answer = ffi::write(n, d, &parts.signs, &parts.kinds, &parts.words, &mut file);
+            let answer =
+                ffi::write(n, d, &parts.signs, &parts.kinds, &parts.thresholds, &parts.words, &mut file);
             assert_eq!(answer.length, file.len() as u64);
-            let mut back = Parts { signs: vec![9; d], kinds: vec![9; n], words: vec![9; n * d] };
-            let answer = ffi::read(&file, &mut back.signs, &mut back.kinds, &mut back.words);
-            assert_eq!((answer.number, answer.lines, answer.levels), (0, n as u64, d as u64));
-            assert_eq!(back, parts);
+            assert_eq!(parts_read(&file, n, d), parts);
         }
     }
 }
 
+/// What reading fills, in slices just as long as it needs.
+fn parts_read(file: &[u8], n: usize, d: usize) -> Parts {
+    let mut parts =
+        Parts { signs: vec![9; d], kinds: vec![9; n], thresholds: vec![9; n], words: vec![9; n * d] };
+    let Parts { signs, kinds, thresholds, words } = &mut parts;
+    let answer = ffi::read(file, signs, kinds, thresholds, words);
+    assert_eq!((answer.number, answer.lines, answer.levels), (0, n as u64, d as u64));
+    parts
+}
+
 #[test]
-fn what_was_read_is_written_back() {
+fn what_was_read_is_written_back_in_the_new_layout() {
     let mut random = Random::new(210);
     for n in 1..=64 {
         for d in 1..=8 {
-            let file = random::any_model(&mut random, n, d).file();
-            let (mut signs, mut kinds, mut words) = ([9; 8], [9; 64], [9; 512]);
-            let read = ffi::read(&file, &mut signs, &mut kinds, &mut words);
-            assert_eq!((read.number, read.lines, read.levels), (0, n as u64, d as u64));
-            let mut back = vec![0xee; file.len()];
-            let answer = ffi::write(n, d, &signs[..d], &kinds[..n], &words[..n * d], &mut back);
-            assert_eq!(answer.length, file.len() as u64);
-            assert_eq!(back, file);
+            let model = random::any_model(&mut random, n, d);
+            let file = random::file(&mut random, &model);
+            let Parts { signs, kinds, thresholds, words } = parts_read(&file, n, d);
+            let mut back = vec![0xee; file_length(n, d)];
+            let answer = ffi::write(n, d, &signs, &kinds, &thresholds, &words, &mut back);
+            assert_eq!(answer.length, back.len() as u64);
+            assert_eq!(back, model.file());
         }
     }
 }

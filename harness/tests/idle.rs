@@ -1,12 +1,12 @@
 //! Idle lines, those without operands (request W2), in every operation: an "any" of none never holds, an "all" of none always does.
 
 use harness::random::{self, full, Case, Random};
-use harness::reference::{Model, Operand};
+use harness::reference::{Kind, Model, Operand};
 use harness::{ffi, Answer};
 
 /// The lines of kind all, as a word.
 fn all_lines(model: &Model) -> u64 {
-    (0..model.lines()).filter(|&i| model.all[i]).map(|i| 1 << i).sum()
+    (0..model.lines()).filter(|&i| model.kinds[i] == Kind::All).map(|i| 1 << i).sum()
 }
 
 /// The idle lines, as a word.
@@ -23,18 +23,18 @@ fn trees(random: &mut Random, model: &Model) -> (Vec<u8>, Vec<u8>) {
 fn random_models_have_idle_lines_of_both_kinds() {
     let mut random = Random::new(1101);
     let kinds = |models: Vec<Model>| {
-        let of_kind = |all: bool| {
+        let of_kind = |kind: Kind| {
             let lines = |model: &Model| {
-                (0..model.lines()).filter(|&i| model.is_idle(i) && model.all[i] == all).count()
+                (0..model.lines()).filter(|&i| model.is_idle(i) && model.kinds[i] == kind).count()
             };
             models.iter().map(lines).sum::<usize>()
         };
-        (of_kind(false), of_kind(true))
+        (of_kind(Kind::Any), of_kind(Kind::All))
     };
     let small = kinds((0..1000).map(|_| random::small_case(&mut random).model).collect());
     let sizes = (0..1000).map(|_| (random.between(1, 64), random.between(1, 8))).collect::<Vec<_>>();
     let any = kinds(sizes.iter().map(|&(n, d)| random::any_model(&mut random, n, d)).collect());
-    let hard = kinds((0..100).map(|_| random::hard_model(&mut random, 64, 4, 20)).collect());
+    let hard = kinds((0..100).map(|_| random::hard_model(&mut random, 64, 4, 20, 30)).collect());
     for (idle_any, idle_all) in [small, any, hard] {
         assert!(idle_any > 100 && idle_all > 100, "{idle_any} of kind any, {idle_all} of kind all");
     }
@@ -45,19 +45,22 @@ fn models_of_idle_lines_alone_in_every_operation() {
     let mut random = Random::new(1102);
     for n in 1..=64 {
         for d in 1..=8 {
-            let all: Vec<bool> = (0..n).map(|_| random.chance(50)).collect();
-            let model = Model { greatest: random::signs(&mut random, d), all, operands: vec![Vec::new(); n] };
-            let Case { model, file, a, b } = Case::new(model, random::bounds(&mut random, n));
+            let kinds = (0..n).map(|_| [Kind::Any, Kind::All][random.between(0, 1)]).collect();
+            let greatest = random::signs(&mut random, d);
+            let bounds = random::bounds(&mut random, n);
+            let model = Model { greatest, kinds, operands: vec![Vec::new(); n] };
+            let Case { model, file, a, b } = Case::new(&mut random, model, bounds);
             let good = all_lines(&model);
 
             let (mut signs, mut kinds, mut words) = (vec![9; d], vec![9; n], vec![9; n * d]);
-            let read = ffi::read(&file, &mut signs, &mut kinds, &mut words);
+            let mut thresholds = vec![9; n];
+            let read = ffi::read(&file, &mut signs, &mut kinds, &mut thresholds, &mut words);
             assert_eq!(read, Answer { lines: n as u64, levels: d as u64, ..Answer::default() });
-            assert_eq!(words, vec![0; n * d]);
-            let mut written = vec![9; file.len()];
-            let length = ffi::write(n, d, &signs, &kinds, &words, &mut written);
-            assert_eq!(length, Answer { length: file.len() as u64, ..Answer::default() });
-            assert_eq!(written, file);
+            assert_eq!((&thresholds, &words), (&vec![0; n], &vec![0; n * d]));
+            let mut written = vec![9; model.file().len()];
+            let length = ffi::write(n, d, &signs, &kinds, &thresholds, &words, &mut written);
+            assert_eq!(length, Answer { length: written.len() as u64, ..Answer::default() });
+            assert_eq!(written, model.file());
 
             let xs: Vec<u64> = random.words(d).iter().map(|word| word & full(n)).collect();
             assert_eq!(ffi::query(&file, &xs), Answer { set: good, ..Answer::default() }, "{model:?}");
@@ -78,7 +81,7 @@ fn models_of_idle_lines_alone_in_every_operation() {
             assert_eq!(ffi::page(&file, &mut page).number, 0);
             let page = String::from_utf8(page).expect("it is ASCII");
             for (i, row) in page.lines().skip(1).enumerate() {
-                let shown = if model.all[i] { "all +" } else { "any -" };
+                let shown = if model.kinds[i] == Kind::All { "all +" } else { "any -" };
                 assert_eq!(row.trim_end(), format!("{i:2} {shown}"));
             }
         }
@@ -93,7 +96,8 @@ fn an_idle_line_is_its_kind_in_a_query() {
         let model = random::any_model(&mut random, n, d);
         let xs: Vec<u64> = random.words(d).iter().map(|word| word & full(n)).collect();
         let idle = idle_lines(&model);
-        assert_eq!(ffi::query(&model.file(), &xs).set & idle, all_lines(&model) & idle, "{xs:?} {model:?}");
+        let file = random::file(&mut random, &model);
+        assert_eq!(ffi::query(&file, &xs).set & idle, all_lines(&model) & idle, "{xs:?} {model:?}");
     }
 }
 
@@ -123,7 +127,8 @@ fn an_idle_line_is_judged_by_its_kind_and_the_bounds_alone() {
 fn looped(model: &Model, right: bool) -> Model {
     let mut looped = model.clone();
     for i in (0..model.lines()).filter(|&i| model.is_idle(i)) {
-        let level = model.greatest.iter().position(|&greatest| (greatest == model.all[i]) == right);
+        let all = model.kinds[i] == Kind::All;
+        let level = model.greatest.iter().position(|&greatest| (greatest == all) == right);
         looped.operands[i].push(Operand { level: level.expect("both signs are there"), line: i });
     }
     looped

@@ -1,10 +1,11 @@
 //! What the manual shows: the example in C, compiled against the static library and run, prints what stands beside it, and the manual has both
-//! as they are; its rows of model P's bytes are the sample model, and its page is the one that the page program prints.
+//! as they are; its rows of model P's bytes are the new file of the sample model, and its page is the one that the page program prints.
 
 use std::fs;
 use std::path::Path;
 use std::process::Command;
 
+use harness::reference::Model;
 use harness::root;
 
 fn text(path: &str) -> String {
@@ -58,7 +59,9 @@ fn the_manual_shows_the_bytes_of_model_p() {
             words.take_while(is_byte).map(|word| u8::from_str_radix(word, 16).expect("it is hexadecimal")),
         );
     }
-    assert_eq!(bytes, fs::read(root("models/p.model")).expect("it is there"));
+    let old = fs::read(root("models/p.model")).expect("it is there");
+    assert_eq!(old.len(), 52);
+    assert_eq!(bytes, Model::from_file(&old).expect("it is a model").file());
 }
 
 #[test]

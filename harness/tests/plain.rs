@@ -65,7 +65,7 @@ fn larger_models_have_the_winning_lines_of_their_game() {
     let limit = 10_000;
     let mut judged = 0;
     let mut between = 0;
-    for round in 0..1500 {
+    for round in 0..600 {
         let (n, d) = (random.between(5, 64), random.between(1, 8));
         let mut case = random::case(&mut random, n, d);
         if round % 2 == 0 {
@@ -82,8 +82,8 @@ fn larger_models_have_the_winning_lines_of_their_game() {
         judged += 1;
         between += (set != a && set != b) as usize;
     }
-    assert!(judged > 1000, "only {judged} models were judged");
-    assert!(between > 400, "only {between} sets strictly between their bounds");
+    assert!(judged > 400, "only {judged} models were judged");
+    assert!(between > 160, "only {between} sets strictly between their bounds");
 }
 
 #[test]
@@ -93,7 +93,7 @@ fn equal_bounds_are_the_set() {
         let (n, d) = (random.between(1, 64), random.between(1, 8));
         let model = random::any_model(&mut random, n, d);
         let both = random.word() & full(n);
-        let case = Case::new(model, (both, both));
+        let case = Case::new(&mut random, model, (both, both));
         // Every level starts from the set and ends after one round: one query.
         judge_around(&case, both, 1);
     }
@@ -114,5 +114,5 @@ fn plain_judging_is_refused_in_order() {
         let nothing = ffi::plain(&case.file, case.a, case.b, 0);
         assert_eq!(nothing, reference::plain(&case.file, case.a, case.b, 0), "{case:?}");
     }
-    seen.assert_each(&[0, 1, 2, 3, 4, 5, 6, 7, 9, 10], 300);
+    seen.assert_each(&[0, 1, 2, 3, 4, 5, 6, 7, 14, 9, 10], 300);
 }

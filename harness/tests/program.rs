@@ -3,7 +3,7 @@
 
 use harness::random::{self, full, Random};
 use harness::reference::game::winning_lines;
-use harness::reference::{self, set_of, word_of, Tree};
+use harness::reference::{self, set_of, word_of, Kind, Tree};
 use harness::{root, Answer};
 use std::io::Write;
 use std::process::{Command, Stdio};
@@ -83,7 +83,7 @@ fn every_sample_model_is_judged_and_has_its_page() {
             seen += 1;
         }
     }
-    assert_eq!(seen, 7);
+    assert_eq!(seen, 9);
 }
 
 #[test]
@@ -102,15 +102,51 @@ fn the_sample_models_show_what_their_note_says() {
         text("models/interlocks.model"),
         "plain 0000000000008000 2\ntree 0000000000008000 16\nshare 62\n"
     );
+    assert!(text("models/pyrometers.model").contains("tree 0000000000000007 16\nshare 750\n"));
+    assert!(text("models/pyrometers-old.model").contains("tree 0000000000000017 49\nshare 571\n"));
+}
+
+#[test]
+fn the_pyrometers_vote_as_their_note_says() {
+    let read = |name: &str| {
+        let file = std::fs::read(root(name)).expect("it is there");
+        reference::Model::from_file(&file).expect("it is a model")
+    };
+    let (model, old) = (read("models/pyrometers.model"), read("models/pyrometers-old.model"));
+    // The file is new, and so is that of every other threshold.
+    let of_threshold = |t: u8| {
+        let mut file = model.file();
+        file[16 + 2 + 1] = t;
+        judged(&file)
+    };
+    assert_eq!(model.file(), std::fs::read(root("models/pyrometers.model")).expect("it is there"));
+    assert_eq!(of_threshold(2), judged(&model.file()));
+    assert!(of_threshold(3).contains("tree 0000000000000006 16\n"));
+    assert_eq!((of_threshold(0), of_threshold(4)), (refused(14), refused(14)));
+    // The old one has the vote written out: the same lines but for line 0, which has the pairs of pyrometers.
+    let pairs = [[1, 2], [1, 3], [2, 3]];
+    let of = |lines: &[usize]| -> Vec<_> {
+        lines.iter().map(|&line| reference::Operand { level: 0, line }).collect()
+    };
+    assert_eq!((model.kinds[0], &model.operands[0]), (Kind::AtLeast(2), &of(&[1, 2, 3])));
+    assert_eq!((old.kinds[0], &old.operands[0]), (Kind::Any, &of(&[4, 5, 6])));
+    for (pair, line) in pairs.iter().zip(4..) {
+        assert_eq!((old.kinds[line], &old.operands[line]), (Kind::All, &of(pair)));
+    }
+    assert_eq!(old.greatest, model.greatest);
+    for line in 1..4 {
+        assert_eq!((old.kinds[line], &old.operands[line]), (model.kinds[line], &model.operands[line]));
+    }
+    assert_eq!(old.old_file(), std::fs::read(root("models/pyrometers-old.model")).expect("it is there"));
 }
 
 #[test]
 fn two_more_closed_interlocks_have_the_share_that_the_note_says() {
     let file = std::fs::read(root("models/interlocks.model")).expect("it is there");
     let mut model = reference::Model::from_file(&file).expect("it is a model");
-    assert!(model.all[15] && model.is_idle(15));
+    assert!(model.kinds[15] == Kind::All && model.is_idle(15));
     for line in [13, 14] {
-        model.all[line] = true;
+        model.kinds[line] = Kind::All;
         model.operands[line].clear();
     }
     assert!(judged(&model.file()).ends_with("tree 000000000000e000 16\nshare 188\n"));
@@ -173,10 +209,16 @@ fn input_in_pieces_is_one_input() {
 
 #[test]
 fn input_that_is_too_long_is_refused() {
-    let largest = std::fs::read(root("models/largest.model")).expect("it is there");
-    let small = std::fs::read(root("models/p.model")).expect("it is there");
-    for more in [1, 2, 5_000, 200_000] {
-        for file in [&largest, &small] {
+    let model = |name: &str| {
+        let file = std::fs::read(root(name)).expect("it is there");
+        reference::Model::from_file(&file).expect("it is a model")
+    };
+    let (largest, small) = (model("models/largest.model"), model("models/p.model"));
+    assert_eq!((largest.file().len(), largest.old_file().len()), (4248, 4184));
+    for file in [largest.file(), largest.old_file(), small.file(), small.old_file()] {
+        assert!(!judged(&file).starts_with("refused") && !paged(&file).starts_with("refused"));
+        // 64 more make the largest old file as long as the largest new one.
+        for more in [1, 2, 64, 65, 5_000, 200_000] {
             let long = [&file[..], &vec![0; more]].concat();
             for text in [judged(&long), paged(&long)] {
                 assert_eq!(text, "refused 5\n", "{} bytes and {more} more", file.len());

@@ -1,8 +1,9 @@
 //! One query against the reference.
 
+use harness::ffi;
 use harness::lent::Seen;
 use harness::random::{self, full, Random};
-use harness::{ffi, reference};
+use harness::reference::{self, Kind};
 
 /// Argument words of a model of n lines: any sets, and empty and full ones.
 fn arguments(random: &mut Random, n: usize, d: usize) -> Vec<u64> {
@@ -21,7 +22,8 @@ fn every_size_is_queried() {
     let mut different = 0;
     for n in 1..=64 {
         for d in 1..=8 {
-            let file = random::any_model(&mut random, n, d).file();
+            let model = random::any_model(&mut random, n, d);
+            let file = random::file(&mut random, &model);
             for _ in 0..8 {
                 let xs = arguments(&mut random, n, d);
                 let answer = ffi::query(&file, &xs);
@@ -42,8 +44,10 @@ fn a_single_operand_is_the_bit_it_selects() {
         let line = random.between(0, n - 1);
         let operand = reference::Operand { level: random.between(0, d - 1), line: random.between(0, n - 1) };
         model.operands[line] = vec![operand];
+        // Whichever its kind.
+        model.kinds[line] = [Kind::Any, Kind::All, Kind::AtLeast(1)][random.between(0, 2)];
         let xs = arguments(&mut random, n, d);
-        let value = ffi::query(&model.file(), &xs).set >> line & 1;
+        let value = ffi::query(&random::file(&mut random, &model), &xs).set >> line & 1;
         assert_eq!(value, xs[operand.level] >> operand.line & 1, "line {line} of {model:?}");
     }
 }
@@ -70,5 +74,5 @@ fn queries_are_refused_in_order() {
         assert_eq!(answer, reference::query(&case.file, &xs), "{xs:?} {:?}", case.file);
         seen.note(answer);
     }
-    seen.assert_each(&[0, 1, 2, 3, 4, 5, 6, 7, 13, 9], 300);
+    seen.assert_each(&[0, 1, 2, 3, 4, 5, 6, 7, 14, 13, 9], 300);
 }

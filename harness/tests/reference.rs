@@ -1,13 +1,14 @@
 //! The reference's ways to one set against each other, and against document 01's numbers. The engine is not called.
 
-use harness::random::{self, full, Random};
+use harness::random::{self, full, Random, Written, FILE_DAMAGES, WRITTEN_DAMAGES};
 use harness::reference::game::winning_lines;
-use harness::reference::model::Model;
+use harness::reference::model::{Model, Parts};
 use harness::reference::nested::nested;
 use harness::reference::plain::rounds;
 use harness::reference::restricted::restricted;
 use harness::reference::tree::lower_bound_model;
-use harness::reference::{self, set_of, word_of, Tree};
+use harness::reference::votes::{exchanges, without_votes};
+use harness::reference::{self, set_of, word_of, Kind, Operand, Set, Tree};
 
 /// The restricted set over the built-in trees.
 fn over_built_in_trees(model: &Model, a: &[bool], b: &[bool]) -> (Vec<bool>, u64) {
@@ -19,7 +20,7 @@ fn over_built_in_trees(model: &Model, a: &[bool], b: &[bool]) -> (Vec<bool>, u64
 #[test]
 fn definition_game_rounds_and_universal_trees_give_one_set() {
     let mut random = Random::new(101);
-    let mut between = 0;
+    let (mut between, mut voted) = (0, 0);
     for _ in 0..4000 {
         let case = random::small_case(&mut random);
         let (a, b) = case.bounds();
@@ -28,14 +29,18 @@ fn definition_game_rounds_and_universal_trees_give_one_set() {
         assert_eq!(rounds(&case.model, &a, &b, u64::MAX).unwrap().0, set, "rounds {case:?}");
         assert_eq!(over_built_in_trees(&case.model, &a, &b).0, set, "trees {case:?}");
         between += (set != a && set != b) as usize;
+        voted += (set != a && set != b && case.model.has_votes()) as usize;
     }
-    assert!(between > 1000, "only {between} sets strictly between their bounds");
+    assert!(
+        between > 1000 && voted > 500,
+        "{between} sets strictly between their bounds, {voted} with votes"
+    );
 }
 
 #[test]
 fn game_and_universal_trees_agree_on_more_lines() {
     let mut random = Random::new(102);
-    let mut between = 0;
+    let (mut between, mut voted) = (0, 0);
     for _ in 0..500 {
         let (n, d) = (random.between(5, 20), random.between(1, 4));
         let case = random::case(&mut random, n, d);
@@ -43,8 +48,104 @@ fn game_and_universal_trees_agree_on_more_lines() {
         let set = winning_lines(&case.model, &a, &b);
         assert_eq!(over_built_in_trees(&case.model, &a, &b).0, set, "{case:?}");
         between += (set != a && set != b) as usize;
+        voted += (set != a && set != b && case.model.has_votes()) as usize;
     }
-    assert!(between > 100, "only {between} sets strictly between their bounds");
+    assert!(between > 100 && voted > 50, "{between} sets strictly between their bounds, {voted} with votes");
+}
+
+#[test]
+fn two_of_three_by_hand() {
+    // Line 0 votes on lines 1 and 2 at level 1 and line 1 at level 2; lines 1 and 2 are idle.
+    let operands = [(0, 1), (0, 2), (1, 1)].map(|(level, line)| Operand { level, line }).to_vec();
+    let model = |t| Model {
+        greatest: vec![false, true],
+        kinds: vec![Kind::AtLeast(t), Kind::All, Kind::Any],
+        operands: vec![operands.clone(), vec![], vec![]],
+    };
+    // Line 1 at both levels counts twice.
+    for (xs, count) in [
+        ([0, 0], 0),
+        ([1, 5], 0),
+        ([2, 0], 1),
+        ([4, 0], 1),
+        ([0, 2], 1),
+        ([2, 2], 2),
+        ([6, 0], 2),
+        ([4, 6], 2),
+        ([6, 2], 3),
+    ] {
+        for t in 1..=3 {
+            assert_eq!(model(t).query(&xs.map(|x| set_of(x, 3)))[0], count >= t, "{t} of {xs:?}");
+        }
+    }
+    // Line 1 is good, line 2 is not: two of the three.
+    for (t, good) in [(1, 3), (2, 3), (3, 2)] {
+        let (a, b) = (set_of(0, 3), set_of(7, 3));
+        assert_eq!(word_of(&nested(&model(t), &a, &b)), good);
+        assert_eq!(word_of(&winning_lines(&model(t), &a, &b)), good);
+    }
+}
+
+/// Sets of n lines, one for each of d levels.
+fn arguments(random: &mut Random, n: usize, d: usize) -> Vec<Set> {
+    random.words(d).iter().map(|&word| set_of(word, n)).collect()
+}
+
+#[test]
+fn a_vote_of_one_is_any_and_a_vote_of_all_is_all() {
+    let mut random = Random::new(107);
+    for _ in 0..1000 {
+        let case = random::small_case(&mut random);
+        let mut voted = case.model.clone();
+        for i in (0..voted.lines()).filter(|&i| !case.model.is_idle(i)) {
+            voted.kinds[i] = match voted.kinds[i] {
+                Kind::Any => Kind::AtLeast(1),
+                Kind::All => Kind::AtLeast(voted.operands[i].len()),
+                vote => vote,
+            };
+        }
+        let xs = arguments(&mut random, voted.lines(), voted.levels());
+        assert_eq!(voted.query(&xs), case.model.query(&xs), "{xs:?} {case:?}");
+        let (a, b) = case.bounds();
+        assert_eq!(winning_lines(&voted, &a, &b), nested(&case.model, &a, &b), "{case:?}");
+    }
+}
+
+#[test]
+fn votes_rewritten_into_any_and_all_lines_come_to_the_same() {
+    let mut random = Random::new(108);
+    let mut rewritten = 0;
+    for _ in 0..2000 {
+        let case = random::small_case(&mut random);
+        let (a, b) = case.bounds();
+        let (model, lower, upper) = without_votes(&case.model, &a, &b);
+        assert!(!model.has_votes());
+        // By rounds, so that no game is played.
+        let (mut set, _) = rounds(&model, &lower, &upper, u64::MAX).unwrap();
+        set.truncate(a.len());
+        assert_eq!(set, nested(&case.model, &a, &b), "{case:?}");
+        rewritten += (model.lines() > a.len()) as usize;
+    }
+    assert!(rewritten > 500, "only {rewritten} models got further lines");
+}
+
+#[test]
+fn exchanges_sort() {
+    let mut random = Random::new(111);
+    let sorts = |mut set: Set| {
+        let count = set.iter().filter(|&&one| one).count();
+        for (first, second) in exchanges(set.len()) {
+            (set[first], set[second]) = (set[first] || set[second], set[first] && set[second]);
+        }
+        set.iter().enumerate().all(|(place, &one)| one == (place < count))
+    };
+    for m in 1..=14 {
+        assert!((0..1 << m).all(|word| sorts(set_of(word, m))), "{m} places");
+    }
+    for m in 15..=512 {
+        let share = random.between(0, 100);
+        assert!(sorts((0..m).map(|_| random.chance(share)).collect()), "{m} places");
+    }
 }
 
 #[test]
@@ -58,6 +159,10 @@ fn a_dual_model_has_the_complement() {
         let set = winning_lines(&case.model, &a, &b);
         let dual = winning_lines(&case.model.dual(), &outside_b, &outside_a);
         assert_eq!(word_of(&set) ^ word_of(&dual), full(n), "{case:?}");
+        let xs = arguments(&mut random, n, d);
+        let outside_xs: Vec<Set> = xs.iter().map(|x| x.iter().map(|set| !set).collect()).collect();
+        let (set, dual) = (case.model.query(&xs), case.model.dual().query(&outside_xs));
+        assert_eq!(word_of(&set) ^ word_of(&dual), full(n), "{xs:?} {case:?}");
     }
 }
 
@@ -171,8 +276,60 @@ fn files_of_models_are_read_back() {
         for d in 1..=8 {
             let model = random::any_model(&mut random, n, d);
             let file = model.file();
-            assert_eq!(file.len(), 16 + d + n + 8 * n * d);
+            assert_eq!(file.len(), 16 + d + 2 * n + 8 * n * d);
+            if !model.has_votes() {
+                let old = model.old_file();
+                assert_eq!(old.len(), 16 + d + n + 8 * n * d);
+                assert_eq!(Model::from_file(&old).as_ref(), Ok(&model));
+            }
             assert_eq!(Model::from_file(&file), Ok(model));
         }
+    }
+}
+
+#[test]
+fn each_damage_of_a_file_has_its_number() {
+    let mut random = Random::new(109);
+    for _ in 0..2000 {
+        for number in FILE_DAMAGES {
+            let (n, d) = (random.between(1, 63), random.between(1, 8));
+            let file = random::damaged_file(&mut random, n, d, number);
+            assert_eq!(Model::from_file(&file), Err(number), "{file:?}");
+        }
+    }
+}
+
+#[test]
+fn each_damage_has_its_number_when_writing() {
+    let mut random = Random::new(110);
+    for _ in 0..2000 {
+        for number in WRITTEN_DAMAGES {
+            let (n, d) = (random.between(1, 63), random.between(1, 8));
+            let mut written = Written { n, d, parts: random::any_model(&mut random, n, d).parts() };
+            random::damage_written(&mut random, &mut written, number);
+            let Written { n, d, parts: Parts { signs, kinds, thresholds, words } } = &written;
+            let answer = reference::write(*n, *d, signs, kinds, thresholds, words, &mut [0; 4248]);
+            assert_eq!(answer.number, number, "{written:?}");
+        }
+    }
+}
+
+#[test]
+fn thresholds_that_files_may_have() {
+    // Three lines at one level; line 2 selects lines 0 and 1, or line 3 too.
+    let selecting = |word: u64, kind: u8, t: u8| {
+        let mut file = vec![3, 0, 1, 0, 16, 0, 0, 0, 17, 0, 0, 0, 23, 0, 0, 0, 1, 0, 0, 1, 0, kind, t];
+        file.extend([0; 16]);
+        file.extend(word.to_le_bytes());
+        Model::from_file(&file).map(|model| model.kinds[2])
+    };
+    let file = |kind, t| selecting(3, kind, t);
+    for t in 0..=255 {
+        let of_both = if t == 0 { Ok(()) } else { Err(14) };
+        assert_eq!(file(0, t), of_both.map(|()| Kind::Any));
+        assert_eq!(file(1, t), of_both.map(|()| Kind::All));
+        assert_eq!(file(2, t), if t == 1 || t == 2 { Ok(Kind::AtLeast(t as usize)) } else { Err(14) });
+        assert_eq!(file(3, t), Err(6));
+        assert_eq!((selecting(11, 2, t), selecting(11, 3, t)), (Err(7), Err(6)));
     }
 }

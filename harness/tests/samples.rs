@@ -1,66 +1,87 @@
 //! Document 01's samples, with the numbers that it gives, and those of the requests.
 
 use harness::random::{full, Density, Random};
-use harness::reference::{self, Model, Operand};
+use harness::reference::{self, Kind, Model, Operand};
 use harness::{ffi, random, Answer};
 
 /// Model P: level 1 least, level 2 greatest; line 0 is all of (level 1, line 1), line 1 any of (level 2, line 0).
-const P: [u8; 52] = [
-    2, 0, 2, 0, 0x10, 0, 0, 0, 0x12, 0, 0, 0, 0x14, 0, 0, 0, // header
+const P: [u8; 54] = [
+    2, 0, 2, 0, 0x10, 0, 0, 0, 0x12, 0, 0, 0, 0x16, 0, 0, 0, // header
     0, 1, // signs
-    1, 0, // kinds
+    1, 0, 0, 0, // kinds, each with its threshold
     2, 0, 0, 0, 0, 0, 0, 0, // line 0, level 1
     0, 0, 0, 0, 0, 0, 0, 0, // line 0, level 2
     0, 0, 0, 0, 0, 0, 0, 0, // line 1, level 1
     1, 0, 0, 0, 0, 0, 0, 0, // line 1, level 2
 ];
 
+/// Its old file, the one that document 01 gives.
+fn old_p() -> [u8; 52] {
+    let begin = [2, 0, 2, 0, 0x10, 0, 0, 0, 0x12, 0, 0, 0, 0x14, 0, 0, 0, 0, 1, 1, 0];
+    [&begin, &P[22..]].concat().try_into().expect("it has 52 bytes")
+}
+
+/// P in both layouts.
+fn ps() -> [Vec<u8>; 2] {
+    [P.to_vec(), old_p().to_vec()]
+}
+
 /// Model Q: P with both signs turned over.
-fn q() -> [u8; 52] {
-    let mut file = P;
-    file[16..18].copy_from_slice(&[1, 0]);
-    file
+fn qs() -> [Vec<u8>; 2] {
+    ps().map(|mut file| {
+        file[16..18].copy_from_slice(&[1, 0]);
+        file
+    })
 }
 
 /// One line, any of itself, one level.
 fn one_line(greatest: bool) -> Vec<u8> {
     let operands = vec![vec![Operand { level: 0, line: 0 }]];
-    Model { greatest: vec![greatest], all: vec![false], operands }.file()
+    Model { greatest: vec![greatest], kinds: vec![Kind::Any], operands }.file()
 }
 
 #[test]
 fn p_is_read_and_written() {
-    let (mut signs, mut kinds, mut words) = ([7; 3], [7; 3], [7; 5]);
-    let answer = ffi::read(&P, &mut signs, &mut kinds, &mut words);
-    assert_eq!(answer, Answer { lines: 2, levels: 2, ..Answer::default() });
-    assert_eq!((signs, kinds, words), ([0, 1, 7], [1, 0, 7], [2, 0, 0, 1, 7]));
-    let mut buffer = [7; 53];
-    let answer = ffi::write(2, 2, &[0, 1], &[1, 0], &[2, 0, 0, 1], &mut buffer);
-    assert_eq!(answer, Answer { length: 52, ..Answer::default() });
-    assert_eq!((&buffer[..52], buffer[52]), (&P[..], 7));
+    for p in ps() {
+        let (mut signs, mut kinds, mut thresholds, mut words) = ([7; 3], [7; 3], [7; 3], [7; 5]);
+        let answer = ffi::read(&p, &mut signs, &mut kinds, &mut thresholds, &mut words);
+        assert_eq!(answer, Answer { lines: 2, levels: 2, ..Answer::default() });
+        assert_eq!((signs, kinds, thresholds), ([0, 1, 7], [1, 0, 7], [0, 0, 7]));
+        assert_eq!(words, [2, 0, 0, 1, 7]);
+    }
+    let mut buffer = [7; 55];
+    let answer = ffi::write(2, 2, &[0, 1], &[1, 0], &[0, 0], &[2, 0, 0, 1], &mut buffer);
+    assert_eq!(answer, Answer { length: 54, ..Answer::default() });
+    assert_eq!((&buffer[..54], buffer[54]), (&P[..], 7));
 }
 
 #[test]
 fn p_is_queried() {
     // Line 0 reads line 1 of the first argument, line 1 reads line 0 of the second.
     for (xs, set) in [([0, 0], 0), ([2, 0], 1), ([0, 1], 2), ([2, 1], 3), ([1, 2], 0)] {
-        assert_eq!(ffi::query(&P, &xs), Answer { set, ..Answer::default() });
+        for p in ps() {
+            assert_eq!(ffi::query(&p, &xs), Answer { set, ..Answer::default() });
+        }
     }
 }
 
 #[test]
 fn p_and_q_between_empty_and_full() {
-    assert_eq!(ffi::plain(&P, 0, 3, 1_000_000), Answer::judged(3, 3));
-    assert_eq!(ffi::built(&P, 0, 3), Answer::judged(3, 4));
-    assert_eq!(ffi::plain(&q(), 0, 3, 1_000_000), Answer::judged(0, 3));
-    assert_eq!(ffi::built(&q(), 0, 3), Answer::judged(0, 4));
+    for (p, q) in ps().iter().zip(&qs()) {
+        assert_eq!(ffi::plain(p, 0, 3, 1_000_000), Answer::judged(3, 3));
+        assert_eq!(ffi::built(p, 0, 3), Answer::judged(3, 4));
+        assert_eq!(ffi::plain(q, 0, 3, 1_000_000), Answer::judged(0, 3));
+        assert_eq!(ffi::built(q, 0, 3), Answer::judged(0, 4));
+    }
 }
 
 #[test]
 fn p_and_q_by_small_trees() {
-    assert_eq!(ffi::lent(&P, 0, 3, &[], &[]), Answer::judged(2, 1));
-    assert_eq!(ffi::lent(&P, 0, 3, &[1], &[]), Answer::judged(3, 2));
-    assert_eq!(ffi::lent(&q(), 0, 3, &[], &[]), Answer::judged(1, 1));
+    for (p, q) in ps().iter().zip(&qs()) {
+        assert_eq!(ffi::lent(p, 0, 3, &[], &[]), Answer::judged(2, 1));
+        assert_eq!(ffi::lent(p, 0, 3, &[1], &[]), Answer::judged(3, 2));
+        assert_eq!(ffi::lent(q, 0, 3, &[], &[]), Answer::judged(1, 1));
+    }
 }
 
 #[test]
@@ -69,12 +90,55 @@ fn one_line_of_itself() {
     assert_eq!(ffi::plain(&one_line(true), 0, 1, 1), Answer::judged(1, 1));
 }
 
+/// Four lines at one least level: lines 0 and 1 are all of none, line 2 any of none, line 3 at least t of these three.
+fn three_pyrometers(t: u8) -> Vec<u8> {
+    let mut file = vec![4, 0, 1, 0, 0x10, 0, 0, 0, 0x11, 0, 0, 0, 0x19, 0, 0, 0];
+    file.push(0);
+    file.extend([1, 0, 1, 0, 0, 0, 2, t]);
+    for word in [0, 0, 0, 7_u64] {
+        file.extend(word.to_le_bytes());
+    }
+    file
+}
+
+#[test]
+fn a_vote_of_three() {
+    // No line, then lines 0 and 1, then line 3 where two of three suffice; a last round shows the same.
+    for (t, set, rounds, mark) in [(1, 11, 3, '+'), (2, 11, 3, '+'), (3, 3, 2, '-')] {
+        let file = three_pyrometers(t);
+        assert_eq!(file.len(), 57);
+        assert_eq!(ffi::plain(&file, 0, 15, 10), Answer::judged(set, rounds));
+        assert_eq!(ffi::built(&file, 0, 15), Answer::judged(set, 4));
+        assert_eq!(ffi::lent(&file, 0, 15, &[], &[]), Answer::judged(3, 1));
+        assert_eq!(ffi::lent(&file, 0, 15, &[1], &[]), Answer::judged(set, 2));
+        let mut page = [0; 41 * 5];
+        assert_eq!(ffi::page(&file, &mut page), Answer { length: 41 * 5, ..Answer::default() });
+        let row = format!(" 3 vot {mark}                                \n");
+        assert_eq!(String::from_utf8_lossy(&page[41 * 4..]), row);
+    }
+    for t in [0, 4, 255] {
+        assert_eq!(ffi::built(&three_pyrometers(t), 0, 15), Answer::refused(14));
+    }
+}
+
+#[test]
+fn a_vote_of_one_line_at_two_levels() {
+    // Level 1 least, level 2 greatest. Of itself at both levels one is there for ever; two are never, as level 1 begins with none.
+    for (t, set) in [(1, 1), (2, 0)] {
+        let operands = vec![[0, 1].map(|level| Operand { level, line: 0 }).to_vec()];
+        let file = Model { greatest: vec![false, true], kinds: vec![Kind::AtLeast(t)], operands }.file();
+        assert_eq!(ffi::plain(&file, 0, 1, 10).set, set);
+        assert_eq!(ffi::built(&file, 0, 1), Answer::judged(set, 1));
+    }
+}
+
 /// Four lines at one level: line 0 is any of none, line 1 all of none, line 2 any of lines 0 and 2, line 3 all of lines 1 and 3.
 fn dead_ends(greatest: bool) -> Vec<u8> {
     let operands = [&[][..], &[], &[0, 2], &[1, 3]];
     let operands =
         operands.map(|lines| lines.iter().map(|&line| Operand { level: 0, line }).collect()).to_vec();
-    Model { greatest: vec![greatest], all: vec![false, true, false, true], operands }.file()
+    let kinds = vec![Kind::Any, Kind::All, Kind::Any, Kind::All];
+    Model { greatest: vec![greatest], kinds, operands }.file()
 }
 
 #[test]
@@ -92,8 +156,8 @@ fn lines_without_operands() {
 fn shares_at_a_half() {
     // 1000 / 16 is 62.5 and 3000 / 16 is 187.5; the even neighbours are 62 and 188.
     for (good, share) in [(1, "  62"), (3, " 188")] {
-        let all = (0..16).map(|i| i < good).collect();
-        let file = Model { greatest: vec![false], all, operands: vec![Vec::new(); 16] }.file();
+        let kinds = (0..16).map(|i| if i < good { Kind::All } else { Kind::Any }).collect();
+        let file = Model { greatest: vec![false], kinds, operands: vec![Vec::new(); 16] }.file();
         let mut page = [0; 41 * 17];
         assert_eq!(ffi::page(&file, &mut page), Answer { length: 41 * 17, ..Answer::default() });
         let row = format!("lines 16 levels 1 share {share}            \n");
@@ -146,9 +210,9 @@ fn bounds_that_do_not_enclose() {
 
 #[test]
 fn sizes_of_files() {
-    let check = |file: &[u8]| ffi::read(file, &mut [0; 8], &mut [0; 64], &mut [0; 512]).number;
+    let check = |file: &[u8]| ffi::read(file, &mut [0; 8], &mut [0; 64], &mut [0; 64], &mut [0; 512]).number;
     let largest = random::any_model(&mut Random::new(702), 64, 8).file();
-    assert_eq!((largest.len(), check(&largest)), (4184, 0));
+    assert_eq!((largest.len(), check(&largest)), (4248, 0));
     let with_counts = |n, d| {
         let mut file = largest.clone();
         (file[0], file[2]) = (n, d);
@@ -157,8 +221,8 @@ fn sizes_of_files() {
     assert_eq!(with_counts(65, 8), 2);
     assert_eq!(with_counts(65, 9), 2);
     assert_eq!(with_counts(64, 9), 3);
-    assert_eq!(check(&P[..51]), 5);
-    assert_eq!(check(&P[..15]), 1);
+    assert_eq!((check(&P[..53]), check(&P[..15])), (5, 1));
+    assert_eq!((check(&old_p()[..51]), check(&old_p()[..15])), (5, 1));
 }
 
 #[test]

@@ -24,7 +24,7 @@ use Rattle.model.specs.declared.layout.Model.{Model}
 use Rattle.model.specs.declared.layout.Reading.{Reading}
 use Rattle.model.specs.declared.layout.Reading.the-variants as reading
 use Rattle.model.proofs.Refusals.{AcceptedAs, RefusedAs, accepted-as, refused-as}
-use Rattle.checker.proofs.Accepted.{accepted, decoded, limits, room}
+use Rattle.checker.proofs.Accepted.{accepted, decoded, held}
 use Rattle.model.specs.Held.{Held, systemIn}
 use Rattle.admission.specs.Checks.{misplaced, boundChecks, boundNumber}
 
@@ -66,7 +66,7 @@ module _ (file : List ℕ) (a b : ℕ) where
           number = counts .number;
           counts = counts;
           in-use = rw none (sym (ap₂ sized (counts .lines) (counts .levels)));
-          held = record { few-lines = limits (whole .header) counts .0; few-levels = limits (whole .header) counts .1; whole = room (whole .header) counts };
+          held = held whole counts;
           system = decoded file counts;
           some-line = whole .header .lines-least;
           range = in-range (linesIn file) a b (both .1 .0);

@@ -3,9 +3,9 @@
 -- Assumes nothing.
 use Prim.Native.Nat.{ℕ}
 use Rattle.answers.specs.declared.Refusal.{Refusal}
-use Rattle.answers.specs.declared.Refusal.the-variants.{HeaderShort, Lines, Levels, Offset, FileLength, SignOrKind, StraySelection, Bounds, Ceiling, Tree, Room, SliceLength}
+use Rattle.answers.specs.declared.Refusal.the-variants.{HeaderShort, Lines, Levels, Offset, FileLength, SignOrKind, StraySelection, Bounds, Ceiling, Tree, Room, SliceLength, Threshold}
 
--- document 01's number of a refusal; 8 is retired (request W2)
+-- document 01's number of a refusal; 8 is retired (request W2), 14 is of request W4
 abbrev pub numberOf : Refusal → ℕ
 numberOf HeaderShort = 1
 numberOf Lines = 2
@@ -19,6 +19,7 @@ numberOf Ceiling = 10
 numberOf Tree = 11
 numberOf Room = 12
 numberOf SliceLength = 13
+numberOf Threshold = 14
 
 pub record Answer : Type 0 where
   -- 0 where the operation accepts, else the number with which it refuses

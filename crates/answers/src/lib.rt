@@ -12,7 +12,7 @@ pub enum Refusal {
     Levels,
     Offset,
     FileLength,
-    // A sign or a kind over 1.
+    // A sign that is none, or a kind that the file's layout does not have.
     SignOrKind,
     // A selected line that is none of the model's.
     StraySelection,
@@ -25,6 +25,8 @@ pub enum Refusal {
     Room,
     // A lent slice that is not as long as the counts say.
     SliceLength,
+    // A threshold on a line that is no vote, or a vote that needs nothing or more operands than it has (request W4).
+    Threshold,
 }
 
 pub fn number(r: Refusal) -> u64
@@ -43,5 +45,6 @@ pub fn number(r: Refusal) -> u64
         Refusal::Tree => 11,
         Refusal::Room => 12,
         Refusal::SliceLength => 13,
+        Refusal::Threshold => 14,
     }
 }

@@ -8,10 +8,11 @@ ghost use lib.ListN.{getD};
 ghost use Rattle.system.specs.System.{sign};
 ghost use Rattle.trees.specs.Built.{built, builtChildren};
 ghost use Rattle.model.specs.Held.{Held, systemIn};
-ghost use Rattle.evaluator.specs.ByLevels.{Decided, SomeDecide};
+ghost use Rattle.evaluator.specs.ByLevels.{Carried, SomeCarry};
 ghost use Rattle.routes.specs.Parts.{LineCount, Gives, leastOf, greatestOf, restrictedFrom, queriesFrom, riseFrom, riseQueries, fallFrom, fallQueries};
 use evaluator::Pending;
 use evaluator::decide;
+use evaluator::lower_needs;
 use model::Model;
 use model::is_greatest;
 use routes::Found;
@@ -47,27 +48,35 @@ fn built_least(
     m: Model,
     below: usize,
     w: Pending,
+    needs: &[u8; 64],
     a: u64,
     b: u64,
     p: usize,
     q: usize,
 ) -> Found
-    requires { ⌜ Held (now file) m × SomeDecide (systemIn (now file) m) (suc below) a b w ⌝ }
+    requires { ⌜ Held (now file) m × SomeCarry (systemIn (now file) m) (suc below) a b w (now needs) ⌝ }
     requires { ⌜ (0 < below) × (below < m .levels) × (sign (systemIn (now file) m) below ≡ false) ⌝ }
     requires { ⌜ LineCount p × LineCount q ⌝ }
     ensures { λ r. ⌜
         (let s = systemIn (now (file .entry)) m in
         let us = builtChildren p (leastOf s below) in
         let v = built q (greatestOf s below) in
-        (ys : List ℕ) → Decided s (suc below) ys a b w → Gives r (riseFrom s below ys a b us v) (riseQueries s below us v)) ⌝ }
+        (ys : List ℕ) → Carried s (suc below) ys a b w (now (needs .entry)) → Gives r (riseFrom s below ys a b us v) (riseQueries s below us v)) ⌝ }
 {
     let mut low = a;
     let mut count: u64 = 0;
     let mut i = 0;
     while i < p {
         let n = child_lines(p, i);
-        let next = decide(file, m, below, low, low, b, w);
-        let child = built_level(file, m, below, next, low, b, n, q);
+        let decision = decide(file, m, below, low, low, b, w, needs);
+        let next = decision.pending;
+        let lowered = decision.lowered;
+        let child = if lowered == 0 {
+            built_level(file, m, below, next, needs, low, b, n, q)
+        } else {
+            let row = lower_needs(file, m, below, low, lowered, needs);
+            built_level(file, m, below, next, &row, low, b, n, q)
+        };
         low = child.set;
         count = count + child.count;
         i += 1;
@@ -81,27 +90,35 @@ fn built_greatest(
     m: Model,
     below: usize,
     w: Pending,
+    needs: &[u8; 64],
     a: u64,
     b: u64,
     p: usize,
     q: usize,
 ) -> Found
-    requires { ⌜ Held (now file) m × SomeDecide (systemIn (now file) m) (suc below) a b w ⌝ }
+    requires { ⌜ Held (now file) m × SomeCarry (systemIn (now file) m) (suc below) a b w (now needs) ⌝ }
     requires { ⌜ (0 < below) × (below < m .levels) × (sign (systemIn (now file) m) below ≡ true) ⌝ }
     requires { ⌜ LineCount p × LineCount q ⌝ }
     ensures { λ r. ⌜
         (let s = systemIn (now (file .entry)) m in
         let u = built p (leastOf s below) in
         let vs = builtChildren q (greatestOf s below) in
-        (ys : List ℕ) → Decided s (suc below) ys a b w → Gives r (fallFrom s below ys a b u vs) (fallQueries s below u vs)) ⌝ }
+        (ys : List ℕ) → Carried s (suc below) ys a b w (now (needs .entry)) → Gives r (fallFrom s below ys a b u vs) (fallQueries s below u vs)) ⌝ }
 {
     let mut high = b;
     let mut count: u64 = 0;
     let mut i = 0;
     while i < q {
         let n = child_lines(q, i);
-        let next = decide(file, m, below, high, a, high, w);
-        let child = built_level(file, m, below, next, a, high, p, n);
+        let decision = decide(file, m, below, high, a, high, w, needs);
+        let next = decision.pending;
+        let lowered = decision.lowered;
+        let child = if lowered == 0 {
+            built_level(file, m, below, next, needs, a, high, p, n)
+        } else {
+            let row = lower_needs(file, m, below, high, lowered, needs);
+            built_level(file, m, below, next, &row, a, high, p, n)
+        };
         high = child.set;
         count = count + child.count;
         i += 1;
@@ -115,30 +132,31 @@ pub fn built_level(
     m: Model,
     k: usize,
     w: Pending,
+    needs: &[u8; 64],
     a: u64,
     b: u64,
     p: usize,
     q: usize,
 ) -> Found
-    requires { ⌜ Held (now file) m × SomeDecide (systemIn (now file) m) k a b w ⌝ }
+    requires { ⌜ Held (now file) m × SomeCarry (systemIn (now file) m) k a b w (now needs) ⌝ }
     requires { ⌜ (0 < k) × (k ≤ m .levels) ⌝ }
     requires { ⌜ LineCount p × LineCount q ⌝ }
     ensures { λ r. ⌜
         (let s = systemIn (now (file .entry)) m in
         let u = built p (leastOf s k) in
         let v = built q (greatestOf s k) in
-        (ys : List ℕ) → Decided s k ys a b w → Gives r (restrictedFrom s k ys a b u v) (queriesFrom s k u v)) ⌝ }
+        (ys : List ℕ) → Carried s k ys a b w (now (needs .entry)) → Gives r (restrictedFrom s k ys a b u v) (queriesFrom s k u v)) ⌝ }
 {
     let below = k - 1;
     if is_greatest(file, m, below) {
         if below == 0 {
-            innermost_greatest(file, m, w, a, b, q)
+            innermost_greatest(file, m, w, needs, a, b, q)
         } else {
-            built_greatest(file, m, below, w, a, b, p, q)
+            built_greatest(file, m, below, w, needs, a, b, p, q)
         }
     } else if below == 0 {
-        innermost_least(file, m, w, a, b, p)
+        innermost_least(file, m, w, needs, a, b, p)
     } else {
-        built_least(file, m, below, w, a, b, p, q)
+        built_least(file, m, below, w, needs, a, b, p, q)
     }
 }

@@ -1,20 +1,25 @@
--- What an accepted file is, for those who use it: what holds of every sign, kind and word is said at each index below their number.
+-- What an accepted file is, for those who use it: what holds of every sign, kind and word is said at each index below their number, and every vote
+-- needs an operand.
 -- Assumes nothing.
+use mathlib.Core.Bool.{Bool, true, false}
 use mathlib.Core.List.{List, _++_}
-use mathlib.Core.Path.{_≡_, refl, _∙_, ap, ap₂}
+use mathlib.Core.Path.{_≡_, refl, sym, _∙_, ap, ap₂, subst}
 use mathlib.Mathlib.Data.Bool.Basic.{or-eq-false-eq-eq-false-and-eq-false as neither}
-use Prim.Native.Nat.{ℕ, _*_, _^_, _≤_, _<_, min}
+use Prim.Native.Nat.{ℕ, zero, suc, _+_, _*_, _^_, _≤_, _<_, min}
+use native.Mathlib.Decide.{decLt}
 use native.Mathlib.Nat.{min-eq-left}
 use native.Mathlib.Omega.{arith}
 use lib.Dec.{ltb}
-use lib.ListN.{length, getD, length-drop}
+use lib.ListN.{length, getD, drop, length-drop, length-replicate, List·getD-eq-default}
 use lib.Seq.{length-take-le}
-use borrow.Author.Tests.{ltb-false, eqb-true, not-false}
+use borrow.Author.Tests.{ltb-false, not-false}
 use Rattle.answers.specs.Check.{Check, firstOf}
 use Rattle.answers.proofs.Checks.{Passes, passes-both, none-first, after-none, inside}
-use Rattle.model.specs.File.{linesIn, levelsIn, fileLength, sections, decode}
-use Rattle.model.specs.Checks.{some, strays, contentChecks}
-use Rattle.checker.specs.Checks.{headerChecks, fileChecks, fileNumber, checkAnswer}
+use Rattle.system.specs.Query.{VotesNeed}
+use Rattle.model.specs.File.{kindsAt, linesIn, levelsIn, wordsIn, lineBytes, highestKind, thresholdsFrom, sections, decode}
+use Rattle.model.specs.Checks.{some, strays, misfits, thresholdMisfits}
+use Rattle.model.specs.Held.{LaidOut, Held}
+use Rattle.checker.specs.Checks.{headerChecks, sectionChecks, fileChecks, fileNumber, checkAnswer}
 use Rattle.model.specs.Says.{readingAnswer}
 use Rattle.answers.specs.declared.Refusal.{Refusal}
 use Rattle.model.specs.declared.layout.Model.{Model}
@@ -23,38 +28,52 @@ use Rattle.model.specs.declared.layout.Reading.the-variants as reading
 use Rattle.sets.specs.Set.{full}
 use Rattle.sets.proofs.Order.{within-le}
 use Rattle.sets.proofs.Range.{full-below}
-use Rattle.model.proofs.Searches.{false-some}
+use Rattle.model.proofs.Searches.{false-some, false-below}
+use Rattle.model.proofs.Lines.{every-length}
 use Rattle.numbers.proofs.Codec.{words-length}
 use Rattle.model.proofs.Refusals.{AcceptedAs, RefusedAs, accepted-as, refused-as}
+use Rattle.model.proofs.RoundTrip.{oldIn}
+use Rattle.checker.proofs.Passed.{passes-laid}
 
--- the counts, and the length that they give
+-- the counts, where the words begin (behind the bytes of the lines), and the length
 pub record Headed (file : List ℕ) : Type 0 where
   pub lines-least : 1 ≤ linesIn file
   pub lines-most : linesIn file ≤ 64
   pub levels-least : 1 ≤ levelsIn file
   pub levels-most : levelsIn file ≤ 8
-  pub size : length file ≡ fileLength (linesIn file) (levelsIn file)
+  pub laid : wordsIn file ≡ kindsAt (levelsIn file) + lineBytes (oldIn file) * linesIn file
+  pub size : length file ≡ wordsIn file + 8 * (linesIn file * levelsIn file)
 
 pub headed : (file : List ℕ) → Passes (headerChecks file) → Headed file
 headed file passed =
     let lines = inside 64 (linesIn file) (passed .1 .0) in
     let levels = inside 8 (levelsIn file) (passed .1 .1 .0) in
+    let laid = passes-laid file (passed .1 .1 .1) in
     record {
       lines-least = lines .0;
       lines-most = lines .1;
       levels-least = levels .0;
       levels-most = levels .1;
-      size = eqb-true _ _ (not-false _ (passed .1 .1 .1 .1 .1 .1 .0));
+      laid = laid .words-right;
+      size = laid .length-right;
     }
 
-module _ {file : List ℕ} (h : Headed file) where
-  pub count-signs : length (decode file .signs) ≡ levelsIn file
-  unfolding decode
-  count-signs = length-take-le _ _ (simp length-drop (omega arith))
+-- how many signs, kinds, thresholds and words there are
+pub count-signs : {file : List ℕ} → Headed file → length (decode file .signs) ≡ levelsIn file
+unfolding decode
+count-signs h = length-take-le _ _ (simp length-drop (omega arith))
 
-  pub count-kinds : length (decode file .kinds) ≡ linesIn file
-  unfolding decode
-  count-kinds = length-take-le _ _ (simp length-drop (omega arith))
+pub count-kinds : (file : List ℕ) → length (decode file .kinds) ≡ linesIn file
+unfolding decode
+count-kinds file = every-length _ _ _
+
+pub count-thresholds : (file : List ℕ) → length (decode file .thresholds) ≡ linesIn file
+unfolding decode
+count-thresholds file = at (oldIn file) (linesIn file) (drop (kindsAt (levelsIn file) + 1) file)
+  where
+    at : (old : Bool) (n : ℕ) (s : List ℕ) → length (thresholdsFrom old n s) ≡ n
+    at true n s = length-replicate n 0
+    at false n s = every-length 2 n s
 
 pub count-words : (file : List ℕ) → length (decode file .words) ≡ linesIn file * levelsIn file
 unfolding decode
@@ -63,23 +82,37 @@ count-words file = words-length _ _
 pub record Accepted (file : List ℕ) : Type 0 where
   pub header : Headed file
   pub signs : (k : ℕ) → k < levelsIn file → getD (decode file .signs) k 0 ≤ 1
-  pub kinds : (i : ℕ) → i < linesIn file → getD (decode file .kinds) i 0 ≤ 1
+  pub kinds : (i : ℕ) → i < linesIn file → getD (decode file .kinds) i 0 ≤ highestKind (oldIn file)
   pub words : (j : ℕ) → j < linesIn file * levelsIn file → getD (decode file .words) j 0 < 2 ^ linesIn file
+  pub votes : VotesNeed (decode file)
+
+-- a vote whose threshold fits it needs an operand
+vote-needs : (kind t count : ℕ) → misfits kind t count ≡ false → 2 ≤ kind → 1 ≤ t
+vote-needs zero t count fits h = absurd (omega arith)
+vote-needs (suc zero) t count fits h = absurd (omega arith)
+vote-needs (suc (suc k)) t count fits h = inside count t fits .0
 
 pub accepted : (file : List ℕ) → fileNumber file ≡ 0 → Accepted file
 unfolding fileNumber decode
 accepted file h =
-    let passed = passes-both (headerChecks file) (contentChecks (decode file)) (none-first (fileChecks file) refl h) in
+    let passed = passes-both (headerChecks file) (sectionChecks file) (none-first (fileChecks file) refl h) in
     let header = headed file (passed .0) in
     let content = passed .1 in
-    let bytes = neither (some (ltb 1) (decode file .signs)) (some (ltb 1) (decode file .kinds)) .0 (content .0) in
+    let system = decode file in
+    let highest = highestKind (oldIn file) in
+    let bytes = neither (some (ltb 1) (system .signs)) (some (ltb highest) (system .kinds)) .0 (content .0) in
     record {
       header = header;
-      signs = λ k l. ltb-false 1 _ (false-some (ltb 1) (decode file .signs) (bytes .0) k (rw (count-signs header) l));
-      kinds = λ i l. ltb-false 1 _ (false-some (ltb 1) (decode file .kinds) (bytes .1) i (rw (count-kinds header) l));
+      signs = λ k l. ltb-false 1 _ (false-some (ltb 1) (system .signs) (bytes .0) k (rw (count-signs header) l));
+      kinds = λ i l. ltb-false highest _ (false-some (ltb highest) (system .kinds) (bytes .1) i (rw (count-kinds file) l));
       words = λ j l.
-          let within = not-false _ (false-some (strays (linesIn file)) (decode file .words) (content .1 .0) j (rw (count-words file) l)) in
+          let within = not-false _ (false-some (strays (linesIn file)) (system .words) (content .1 .0) j (rw (count-words file) l)) in
           full-below (linesIn file) _ (within-le _ _ within);
+      votes = λ i vote.
+          elim (decLt i (linesIn file)) [
+            | yes l ↦ vote-needs _ _ _ (false-below (thresholdMisfits system) (linesIn file) (content .1 .1 .0) i l) vote
+            | no g ↦ absurd (omega (arith, List·getD-eq-default (system .kinds) 0 {n = i} (omega (arith, count-kinds file))))
+          ];
     }
 
 -- the system of the counts that are handed back, and what is asked of them wherever the file is used
@@ -88,12 +121,18 @@ pub decoded : (file : List ℕ) {e : ℕ} {m : Model}
 unfolding decode
 decoded file a = ap₂ (λ (n d : ℕ). sections n d file) (a .lines) (a .levels)
 
-module _ {file : List ℕ} {e : ℕ} {m : Model} (h : Headed file) (a : AcceptedAs e (linesIn file) (levelsIn file) m) where
-  pub limits : (m .lines ≤ 64) × (m .levels ≤ 8)
-  limits = omega arith
+module _ {file : List ℕ} {e : ℕ} {m : Model} where
+  pub laid-out : Headed file → AcceptedAs e (linesIn file) (levelsIn file) m → LaidOut file m
+  laid-out h a =
+      record {
+        few-lines = omega arith;
+        few-levels = omega arith;
+        laid = rw (a .lines, a .levels) (h .laid);
+        whole = rw (a .lines, a .levels) (omega (arith, h .size));
+      }
 
-  pub room : fileLength (m .lines) (m .levels) ≤ length file
-  room = rw (a .lines, a .levels) (omega arith)
+  pub held : Accepted file → AcceptedAs e (linesIn file) (levelsIn file) m → Held file m
+  held ok a = record { laid-out = laid-out (ok .header) a; votes = subst VotesNeed (sym (decoded file a)) (ok .votes) }
 
 -- what checking's two answers say
 pub record Checked (file : List ℕ) (m : Model) : Type 0 where
@@ -101,19 +140,22 @@ pub record Checked (file : List ℕ) (m : Model) : Type 0 where
   pub accepted : Accepted file
   pub system : sections (m .lines) (m .levels) file ≡ decode file
   pub limits : (m .lines ≤ 64) × (m .levels ≤ 8)
-  pub room : fileLength (m .lines) (m .levels) ≤ length file
+  pub laid-out : LaidOut file m
+  pub held : Held file m
 
 module _ (file : List ℕ) {a : Reading} (h : readingAnswer a ≡ checkAnswer file) where
   pub checked : {m : Model} → a ≡ reading.Accepted m → Checked file m
   checked e =
       let counts = accepted-as (fileNumber file) (linesIn file) (levelsIn file) h e in
       let whole = accepted file (counts .number) in
+      let at-hand = held whole counts in
       record {
         counts = counts;
         accepted = whole;
         system = decoded file counts;
-        limits = limits (whole .header) counts;
-        room = room (whole .header) counts;
+        limits = (at-hand .laid-out .few-lines, at-hand .laid-out .few-levels);
+        laid-out = at-hand .laid-out;
+        held = at-hand;
       }
 
   pub refused : {r : Refusal} → a ≡ reading.Refused r → RefusedAs (fileNumber file) r

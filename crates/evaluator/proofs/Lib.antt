@@ -1,4 +1,5 @@
 pub mod FoundLines
+pub mod LookedLines
 pub mod Needs
 pub mod OuterLevels
 pub mod DecidedLines

@@ -2,10 +2,13 @@
 // Making the text is `report`'s, which is proved; here it is only read, called and written.
 use libc::STDIN_FILENO;
 use libc::STDOUT_FILENO;
+use model::Model;
+
+// One byte more than the longest file has is enough to tell that an input is too long.
+const INPUT_SIZE: usize = Model::MAX_FILE + 1;
 
 fn main() {
-    // The largest file has 4,184 bytes: one byte more is enough to tell that an input is too long.
-    let mut input = [0u8; 4185];
+    let mut input = [0u8; INPUT_SIZE];
     let got = io::read_full(STDIN_FILENO, &mut input);
     let mut out = [0u8; report::REPORT_SIZE];
     let made = report::report(&input[..got], &mut out);

@@ -7,10 +7,11 @@ ghost use lib.ListN.{length, getD};
 ghost use Rattle.system.specs.System.{sign};
 ghost use Rattle.trees.specs.Tree.{children};
 ghost use Rattle.model.specs.Held.{Held, systemIn};
-ghost use Rattle.evaluator.specs.ByLevels.{Decided, SomeDecide};
+ghost use Rattle.evaluator.specs.ByLevels.{Carried, SomeCarry};
 ghost use Rattle.routes.specs.Parts.{Lent, Gives, leastOf, greatestOf, restrictedFrom, queriesFrom, riseFrom, riseQueries, fallFrom, fallQueries};
 use evaluator::Pending;
 use evaluator::decide;
+use evaluator::lower_needs;
 use model::Model;
 use model::is_greatest;
 use routes::Found;
@@ -39,6 +40,7 @@ fn lent_least(
     m: Model,
     below: usize,
     w: Pending,
+    needs: &[u8; 64],
     a: u64,
     b: u64,
     hu: usize,
@@ -46,14 +48,14 @@ fn lent_least(
     hv: usize,
     v: &[u8],
 ) -> Found
-    requires { ⌜ Held (now file) m × SomeDecide (systemIn (now file) m) (suc below) a b w ⌝ }
+    requires { ⌜ Held (now file) m × SomeCarry (systemIn (now file) m) (suc below) a b w (now needs) ⌝ }
     requires { ⌜ (0 < below) × (below < m .levels) × (sign (systemIn (now file) m) below ≡ false) ⌝ }
     requires { ⌜ (hu ≡ suc (leastOf (systemIn (now file) m) below)) × Lent hu (now u) ⌝ }
     requires { ⌜ (hv ≡ greatestOf (systemIn (now file) m) below) × Lent hv (now v) ⌝ }
     ensures { λ r. ⌜
         (let s = systemIn (now (file .entry)) m in
         let us = children hu (now (u .entry)) in
-        (ys : List ℕ) → Decided s (suc below) ys a b w → Gives r (riseFrom s below ys a b us (now (v .entry))) (riseQueries s below us (now (v .entry)))) ⌝ }
+        (ys : List ℕ) → Carried s (suc below) ys a b w (now (needs .entry)) → Gives r (riseFrom s below ys a b us (now (v .entry))) (riseQueries s below us (now (v .entry)))) ⌝ }
 {
     let mut low = a;
     let mut count: u64 = 0;
@@ -62,8 +64,16 @@ fn lent_least(
         // The gaps of the next child, up to the next gap of the root or to the end.
         let rest = &u[from..];
         let cut = first_gap(rest, hu);
-        let next = decide(file, m, below, low, low, b, w);
-        let child = lent_level(file, m, below, next, low, b, hu - 1, &rest[..cut], hv, v);
+        let first = &rest[..cut];
+        let decision = decide(file, m, below, low, low, b, w, needs);
+        let next = decision.pending;
+        let lowered = decision.lowered;
+        let child = if lowered == 0 {
+            lent_level(file, m, below, next, needs, low, b, hu - 1, first, hv, v)
+        } else {
+            let row = lower_needs(file, m, below, low, lowered, needs);
+            lent_level(file, m, below, next, &row, low, b, hu - 1, first, hv, v)
+        };
         low = child.set;
         count = count + child.count;
         if cut == rest.len() {
@@ -79,6 +89,7 @@ fn lent_greatest(
     m: Model,
     below: usize,
     w: Pending,
+    needs: &[u8; 64],
     a: u64,
     b: u64,
     hu: usize,
@@ -86,14 +97,14 @@ fn lent_greatest(
     hv: usize,
     v: &[u8],
 ) -> Found
-    requires { ⌜ Held (now file) m × SomeDecide (systemIn (now file) m) (suc below) a b w ⌝ }
+    requires { ⌜ Held (now file) m × SomeCarry (systemIn (now file) m) (suc below) a b w (now needs) ⌝ }
     requires { ⌜ (0 < below) × (below < m .levels) × (sign (systemIn (now file) m) below ≡ true) ⌝ }
     requires { ⌜ (hu ≡ leastOf (systemIn (now file) m) below) × Lent hu (now u) ⌝ }
     requires { ⌜ (hv ≡ suc (greatestOf (systemIn (now file) m) below)) × Lent hv (now v) ⌝ }
     ensures { λ r. ⌜
         (let s = systemIn (now (file .entry)) m in
         let vs = children hv (now (v .entry)) in
-        (ys : List ℕ) → Decided s (suc below) ys a b w → Gives r (fallFrom s below ys a b (now (u .entry)) vs) (fallQueries s below (now (u .entry)) vs)) ⌝ }
+        (ys : List ℕ) → Carried s (suc below) ys a b w (now (needs .entry)) → Gives r (fallFrom s below ys a b (now (u .entry)) vs) (fallQueries s below (now (u .entry)) vs)) ⌝ }
 {
     let mut high = b;
     let mut count: u64 = 0;
@@ -101,8 +112,16 @@ fn lent_greatest(
     loop {
         let rest = &v[from..];
         let cut = first_gap(rest, hv);
-        let next = decide(file, m, below, high, a, high, w);
-        let child = lent_level(file, m, below, next, a, high, hu, u, hv - 1, &rest[..cut]);
+        let first = &rest[..cut];
+        let decision = decide(file, m, below, high, a, high, w, needs);
+        let next = decision.pending;
+        let lowered = decision.lowered;
+        let child = if lowered == 0 {
+            lent_level(file, m, below, next, needs, a, high, hu, u, hv - 1, first)
+        } else {
+            let row = lower_needs(file, m, below, high, lowered, needs);
+            lent_level(file, m, below, next, &row, a, high, hu, u, hv - 1, first)
+        };
         high = child.set;
         count = count + child.count;
         if cut == rest.len() {
@@ -118,6 +137,7 @@ pub fn lent_level(
     m: Model,
     k: usize,
     w: Pending,
+    needs: &[u8; 64],
     a: u64,
     b: u64,
     hu: usize,
@@ -125,24 +145,24 @@ pub fn lent_level(
     hv: usize,
     v: &[u8],
 ) -> Found
-    requires { ⌜ Held (now file) m × SomeDecide (systemIn (now file) m) k a b w ⌝ }
+    requires { ⌜ Held (now file) m × SomeCarry (systemIn (now file) m) k a b w (now needs) ⌝ }
     requires { ⌜ (0 < k) × (k ≤ m .levels) ⌝ }
     requires { ⌜ (hu ≡ leastOf (systemIn (now file) m) k) × Lent hu (now u) ⌝ }
     requires { ⌜ (hv ≡ greatestOf (systemIn (now file) m) k) × Lent hv (now v) ⌝ }
     ensures { λ r. ⌜
         (let s = systemIn (now (file .entry)) m in
-        (ys : List ℕ) → Decided s k ys a b w → Gives r (restrictedFrom s k ys a b (now (u .entry)) (now (v .entry))) (queriesFrom s k (now (u .entry)) (now (v .entry)))) ⌝ }
+        (ys : List ℕ) → Carried s k ys a b w (now (needs .entry)) → Gives r (restrictedFrom s k ys a b (now (u .entry)) (now (v .entry))) (queriesFrom s k (now (u .entry)) (now (v .entry)))) ⌝ }
 {
     let below = k - 1;
     if is_greatest(file, m, below) {
         if below == 0 {
-            innermost_greatest(file, m, w, a, b, v.len() + 1)
+            innermost_greatest(file, m, w, needs, a, b, v.len() + 1)
         } else {
-            lent_greatest(file, m, below, w, a, b, hu, u, hv, v)
+            lent_greatest(file, m, below, w, needs, a, b, hu, u, hv, v)
         }
     } else if below == 0 {
-        innermost_least(file, m, w, a, b, u.len() + 1)
+        innermost_least(file, m, w, needs, a, b, u.len() + 1)
     } else {
-        lent_least(file, m, below, w, a, b, hu, u, hv, v)
+        lent_least(file, m, below, w, needs, a, b, hu, u, hv, v)
     }
 }

@@ -9,12 +9,7 @@ use native.Mathlib.Decide.{decLt}
 use native.Mathlib.Nat.{le-of-lt}
 use native.Mathlib.Omega.{arith}
 use lib.ListN.{length, getD}
-use Rattle.model.specs.Checks.{some}
-
--- whether p holds of a number below n
-abbrev pub someBelow : ℕ → (ℕ → Bool) → Bool
-someBelow zero p = false
-someBelow (suc n) p = p n || someBelow n p
+use Rattle.model.specs.Checks.{some, someBelow}
 
 -- p holds of no number below n
 abbrev pub NoneBelow : ℕ → (ℕ → Bool) → Type 0
@@ -33,7 +28,7 @@ module _ (p : ℕ → Bool) where
   below-false zero l h = refl
   below-false (suc n) l h = rw (h n l, below-false n (le-of-lt l) h)
 
-  false-below : (n : ℕ) → someBelow n p ≡ false → NoneBelow n p
+  pub false-below : (n : ℕ) → someBelow n p ≡ false → NoneBelow n p
   false-below n h i l = at (p i) refl
     where
       at : (b : Bool) → p i ≡ b → b ≡ false

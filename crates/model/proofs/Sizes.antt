@@ -1,4 +1,4 @@
--- What a model's counts give: at most 512 words and 4184 bytes, places for each line's words, and a mask of 64 bits that holds all of its lines.
+-- What a model's counts give: at most 512 words and 4248 bytes, places for each line's words, and a mask of 64 bits that holds all of its lines.
 -- Assumes nothing.
 use mathlib.Core.Bool.{not}
 use mathlib.Core.Path.{_≡_, _∙_, ap}
@@ -13,7 +13,7 @@ pub few-words : {n d : ℕ} → n ≤ 64 → d ≤ 8 → n * d ≤ 512
 few-words = mul-le-mul
 
 -- a file of the most lines and levels is the longest
-pub length-most : (n d : ℕ) → n ≤ 64 → d ≤ 8 → fileLength n d ≤ 4184
+pub length-most : (n d : ℕ) → n ≤ 64 → d ≤ 8 → fileLength n d ≤ 4248
 length-most n d hn hd = omega (arith, few-words hn hd)
 
 -- the d places of line i are among those of n lines

@@ -2,7 +2,7 @@
 ghost use mathlib.Core.Path.{_≡_};
 ghost use Prim.Native.Nat.{_≤_};
 ghost use Rattle.answers.specs.Check.{firstOf, unless};
-ghost use Rattle.model.specs.File.{kindsAt, wordsAt, fileLength};
+ghost use Rattle.model.specs.File.{kindsAt, wordsAt, oldWordsAt, fileLength};
 ghost use Rattle.model.specs.Checks.{countChecks};
 ghost use Rattle.model.specs.Says.{readingAnswer, sized};
 use answers::Refusal;
@@ -25,6 +25,8 @@ impl Model {
     pub const MAX_LEVELS: usize = 8;
     // Of a lent tree.
     pub const MAX_GAPS: usize = 1023;
+    // Of the longest file, in bytes.
+    pub const MAX_FILE: usize = 4248;
     // The signs begin after the header.
     pub const SIGNS_AT: usize = 16;
 
@@ -54,17 +56,26 @@ impl Model {
         Model::SIGNS_AT + self.levels
     }
 
+    // In a new file, the only ones that are made.
     pub fn words_at(self) -> usize
         requires { ⌜ (self .lines ≤ 64) × (self .levels ≤ 8) ⌝ }
         ensures { λ r. ⌜ r ≡ wordsAt (self .lines) (self .levels) ⌝ }
     {
+        Model::SIGNS_AT + self.levels + 2 * self.lines
+    }
+
+    pub fn old_words_at(self) -> usize
+        requires { ⌜ (self .lines ≤ 64) × (self .levels ≤ 8) ⌝ }
+        ensures { λ r. ⌜ r ≡ oldWordsAt (self .lines) (self .levels) ⌝ }
+    {
         Model::SIGNS_AT + self.levels + self.lines
     }
 
+    // Of a new file.
     pub fn file_length(self) -> usize
         requires { ⌜ (self .lines ≤ 64) × (self .levels ≤ 8) ⌝ }
         ensures { λ r. ⌜ r ≡ fileLength (self .lines) (self .levels) ⌝ }
     {
-        Model::SIGNS_AT + self.levels + self.lines + 8 * (self.lines * self.levels)
+        Model::SIGNS_AT + self.levels + 2 * self.lines + 8 * (self.lines * self.levels)
     }
 }

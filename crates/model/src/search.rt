@@ -3,14 +3,15 @@ ghost use mathlib.Core.Path.{_≡_};
 ghost use Prim.Native.Nat.{_≤_};
 ghost use lib.Dec.{ltb};
 ghost use Rattle.model.specs.Checks.{some, strays};
+ghost use Rattle.model.specs.Checks as spec;
 
-// Whether one of the bytes is over 1.
-pub fn over_one(s: &[u8]) -> bool
-    ensures { λ r. ⌜ r ≡ some (ltb 1) (now (s .entry)) ⌝ }
+// Whether one of the bytes is over the highest that there may be.
+pub fn one_over(s: &[u8], highest: u8) -> bool
+    ensures { λ r. ⌜ r ≡ some (ltb highest) (now (s .entry)) ⌝ }
 {
     let mut i = 0;
     while i < s.len() {
-        if 1 < s[i] {
+        if highest < s[i] {
             return true;
         }
         i += 1;
@@ -32,4 +33,14 @@ pub fn one_strays(words: &[u64], n: usize) -> bool
         i += 1;
     }
     false
+}
+
+// Whether a line of this kind, with so many operands, may not have the threshold t.
+pub fn misfits(kind: u8, t: u8, count: usize) -> bool
+    ensures { λ r. ⌜ r ≡ spec.misfits kind t count ⌝ }
+{
+    if kind < 2 {
+        return t != 0;
+    }
+    t == 0 || count < t as usize
 }

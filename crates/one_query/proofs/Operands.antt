@@ -7,13 +7,13 @@ use Prim.Native.Nat.{ℕ, zero, suc, _+_, _-_, _*_, _^_, _<_}
 use native.Mathlib.Nat.{add-zero, sub-zero, sub-self}
 use native.Mathlib.Numerals.{add-one}
 use native.Mathlib.Omega.{arith}
-use lib.Dec.{eqb}
+use lib.Dec.{eqb, leb}
 use lib.ListN.{length, getD, take, drop}
 use lib.Seq.{drop-drop, drop-cons}
-use Rattle.sets.specs.Set.{intersection, isWithin}
-use Rattle.system.specs.Query.{any, all, valueOf, selected, operands}
+use Rattle.sets.specs.Set.{intersection, isWithin, members}
+use Rattle.system.specs.Query.{any, all, countSet, valueOf, selected, operands}
 use Rattle.numbers.specs.Numbers.{numberAt, wordsFrom}
-use Rattle.system.proofs.Masks.{any-append, all-append, any-selected, all-selected}
+use Rattle.system.proofs.Masks.{any-append, all-append, count-append, any-selected, all-selected, count-selected}
 
 module _ (file : List ℕ) (at d : ℕ) (xs : List ℕ) where
   -- the operands from level k + 1 on, for d words from the offset `at` on
@@ -46,10 +46,19 @@ module _ (file : List ℕ) (at d : ℕ) (xs : List ℕ) where
         ap all (from-step k h l) ∙ all-append (selected 64 (numberAt file (at + 8 * k) 8) (getD xs k 0)) (from (k + 1))
         ∙ rw (← e, all-selected w (getD xs k 0) lw lx)
 
--- a line's value by its kind
-pub value-any : (kind : ℕ) (bits : List Bool) → kind ≡ 0 → valueOf kind bits ≡ any bits
-value-any kind bits e = rw e
+    pub count-step : countSet (from k) ≡ members (intersection w (getD xs k 0)) + countSet (from (k + 1))
+    count-step =
+        ap countSet (from-step k h l) ∙ count-append (selected 64 (numberAt file (at + 8 * k) 8) (getD xs k 0)) (from (k + 1))
+        ∙ rw (← e, count-selected w (getD xs k 0) lw lx)
 
-pub value-all : (kind : ℕ) (bits : List Bool) → (kind ≡ 0 → ⊥) → valueOf kind bits ≡ all bits
-value-all zero bits ne = absurd (ne refl)
-value-all (suc k) bits ne = refl
+-- a line's value by its kind
+pub value-any : (kind t : ℕ) (bits : List Bool) → kind ≡ 0 → valueOf kind t bits ≡ any bits
+value-any kind t bits e = rw e
+
+pub value-all : (kind t : ℕ) (bits : List Bool) → kind ≡ 1 → valueOf kind t bits ≡ all bits
+value-all kind t bits e = rw e
+
+pub value-vote : (kind t : ℕ) (bits : List Bool) → (kind ≡ 0 → ⊥) → (kind ≡ 1 → ⊥) → valueOf kind t bits ≡ leb t (countSet bits)
+value-vote zero t bits n m = absurd (n refl)
+value-vote (suc zero) t bits n m = absurd (m refl)
+value-vote (suc (suc k)) t bits n m = refl

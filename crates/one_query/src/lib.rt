@@ -1,11 +1,15 @@
 // The set of one query, line by line: no argument stays for a further query, so nothing is carried.
 ghost use mathlib.Core.Path.{_≡_};
 ghost use Prim.Native.Nat.{_+_, _*_, _≤_, _<_};
+ghost use lib.Dec.{leb};
 ghost use lib.ListN.{length, take, drop};
 ghost use Rattle.system.specs.Query as spec;
 ghost use Rattle.numbers.specs.Numbers.{wordsFrom};
 ghost use Rattle.model.specs.Held.{Held, systemIn};
 use model::Model;
+use model::kind;
+use model::threshold;
+use model::words_in;
 use numbers::u64_at;
 
 // The "or" of the operands that the d words from an offset on select. The first word with a set operand decides.
@@ -41,16 +45,37 @@ fn all_operands(file: &[u8], at: usize, d: usize, xs: &[u64]) -> bool
     true
 }
 
-// A line's value by its kind.
-fn line_value(file: &[u8], kind: u8, at: usize, d: usize, xs: &[u64]) -> bool
+// Whether at least t of them are set: what is needed falls from level to level, and nothing more to need decides.
+fn enough_operands(file: &[u8], at: usize, d: usize, xs: &[u64], t: u8) -> bool
     requires { ⌜ (d ≤ 8) × (at + 8 * d ≤ length (now file)) ⌝ }
     requires { ⌜ d ≤ length (now xs) ⌝ }
-    ensures { λ r. ⌜ r ≡ spec.valueOf kind (spec.operands (wordsFrom d (drop at (now (file .entry)))) (take d (now (xs .entry)))) ⌝ }
+    ensures { λ r. ⌜ r ≡ leb t (spec.countSet (spec.operands (wordsFrom d (drop at (now (file .entry)))) (take d (now (xs .entry))))) ⌝ }
+{
+    let mut need = t as u32;
+    let mut k = 0;
+    while k < d {
+        let count = sets::member_count(u64_at(file, at + 8 * k) & xs[k]);
+        if need <= count {
+            return true;
+        }
+        need -= count;
+        k += 1;
+    }
+    need == 0
+}
+
+// A line's value by its kind and its threshold.
+fn line_value(file: &[u8], kind: u8, t: u8, at: usize, d: usize, xs: &[u64]) -> bool
+    requires { ⌜ (d ≤ 8) × (at + 8 * d ≤ length (now file)) ⌝ }
+    requires { ⌜ d ≤ length (now xs) ⌝ }
+    ensures { λ r. ⌜ r ≡ spec.valueOf kind t (spec.operands (wordsFrom d (drop at (now (file .entry)))) (take d (now (xs .entry)))) ⌝ }
 {
     if kind == 0 {
         any_operand(file, at, d, xs)
-    } else {
+    } else if kind == 1 {
         all_operands(file, at, d, xs)
+    } else {
+        enough_operands(file, at, d, xs, t)
     }
 }
 
@@ -62,12 +87,11 @@ pub fn evaluate(file: &[u8], m: Model, xs: &[u64]) -> u64
 {
     let n = m.lines;
     let d = m.levels;
-    let kinds_at = m.kinds_at();
-    let mut at = m.words_at();
+    let mut at = words_in(file);
     let mut set: u64 = 0;
     let mut i = 0;
     while i < n {
-        if line_value(file, file[kinds_at + i], at, d, xs) {
+        if line_value(file, kind(file, m, i), threshold(file, m, i), at, d, xs) {
             set = set | (1u64 << i);
         }
         at += 8 * d;

@@ -31,7 +31,8 @@ row-length items few =
 
 pub kind-length : (kind : ℕ) → length (kindWord kind) ≡ 3
 kind-length zero = refl
-kind-length (suc k) = refl
+kind-length (suc zero) = refl
+kind-length (suc (suc k)) = refl
 
 pub mark-length : (good : Bool) → length (mark good) ≡ 1
 mark-length true = refl
@@ -58,9 +59,3 @@ pub rows-length : (n : ℕ) (rowAt : ℕ → List ℕ) → ((i : ℕ) → i < n 
 unfolding rowsOf
 rows-length zero rowAt each = refl
 rows-length (suc n) rowAt each = omega (arith, length-append (rowsOf n rowAt) (rowAt n), rows-length n rowAt (λ i h. each i (omega arith)), each n (omega arith))
-
--- rows that are the same at each line
-pub rows-same : (n : ℕ) (f g : ℕ → List ℕ) → ((i : ℕ) → i < n → f i ≡ g i) → rowsOf n f ≡ rowsOf n g
-unfolding rowsOf
-rows-same zero f g each = refl
-rows-same (suc n) f g each = ap₂ _++_ (rows-same n f g (λ i h. each i (omega arith))) (each n (omega arith))

@@ -21,10 +21,11 @@ levelsWord = 108 ∷ 101 ∷ 118 ∷ 101 ∷ 108 ∷ 115 ∷ []
 abbrev pub shareWord : List ℕ
 shareWord = 115 ∷ 104 ∷ 97 ∷ 114 ∷ 101 ∷ []
 
--- `any` or `all`
+-- `any`, `all` or `vot` (request W4)
 abbrev pub kindWord : ℕ → List ℕ
 kindWord zero = 97 ∷ 110 ∷ 121 ∷ []
-kindWord (suc k) = 97 ∷ 108 ∷ 108 ∷ []
+kindWord (suc zero) = 97 ∷ 108 ∷ 108 ∷ []
+kindWord (suc (suc k)) = 118 ∷ 111 ∷ 116 ∷ []
 
 -- `+` for good, `-` for not
 abbrev pub mark : Bool → List ℕ

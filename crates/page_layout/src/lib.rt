@@ -3,11 +3,12 @@ ghost use mathlib.Core.List.{[], _∷_, _++_};
 ghost use Prim.Native.Nat.{_+_, _-_, _*_, _^_, _≤_, _<_};
 ghost use lib.ListN.{length, getD};
 ghost use Rattle.sets.specs.Set.{isMember};
-ghost use Rattle.model.specs.Held.{Held, systemIn};
+ghost use Rattle.model.specs.Held.{LaidOut, systemIn};
 ghost use Rattle.text.specs.Text.{Puts};
 ghost use Rattle.padding.specs.Padding.{blanks};
 ghost use Rattle.page_layout.specs.Page.{kindWord, mark, firstRow, lineRow, rowsOf, page};
 use model::Model;
+use model::kind;
 use padding::put_blanks;
 use padding::put_right;
 use text::put;
@@ -48,8 +49,10 @@ fn put_kind(out: &mut [u8], at: usize, kind: u8) -> usize
 {
     if kind == 0 {
         put(out, at, b" any ")
-    } else {
+    } else if kind == 1 {
         put(out, at, b" all ")
+    } else {
+        put(out, at, b" vot ")
     }
 }
 
@@ -79,16 +82,15 @@ fn put_line_row(out: &mut [u8], at: usize, i: usize, kind: u8, good: bool) -> us
 
 // The rows of a file's lines, of which those in `good` are good.
 fn put_line_rows(file: &[u8], m: Model, good: u64, out: &mut [u8], at: usize) -> usize
-    requires { ⌜ Held (now file) m ⌝ }
+    requires { ⌜ LaidOut (now file) m ⌝ }
     requires { ⌜ at + 41 * m .lines ≤ length (now out) ⌝ }
     ensures { λ r. ⌜ Puts at (rowsOf (m .lines) (λ i. lineRow i (getD (systemIn (now (file .entry)) m .kinds) i 0) (isMember good i))) (now (out .entry)) (now (out .exit)) r ⌝ }
 {
-    let kinds_at = m.kinds_at();
     let n = m.lines;
     let mut next = at;
     let mut i = 0;
     while i < n {
-        next = put_line_row(out, next, i, file[kinds_at + i], sets::member(good, i));
+        next = put_line_row(out, next, i, kind(file, m, i), sets::member(good, i));
         i += 1;
     }
     next
@@ -96,7 +98,7 @@ fn put_line_rows(file: &[u8], m: Model, good: u64, out: &mut [u8], at: usize) ->
 
 // The page of a file with these good lines, at the front.
 pub fn put_page(file: &[u8], m: Model, good: u64, out: &mut [u8]) -> usize
-    requires { ⌜ Held (now file) m ⌝ }
+    requires { ⌜ LaidOut (now file) m ⌝ }
     requires { ⌜ good < 2 ^ m .lines ⌝ }
     requires { ⌜ 41 * (m .lines + 1) ≤ length (now out) ⌝ }
     ensures { λ r. ⌜ Puts 0 (page (systemIn (now (file .entry)) m) good) (now (out .entry)) (now (out .exit)) r ⌝ }

@@ -1,5 +1,5 @@
 -- What the levels give lies between the intersection and the union of the bounds, whatever the bounds are. So the bounds only narrow on the way in, and
--- what was decided of the lines that they left open holds between the narrower ones.
+-- what is carried of the lines that they leave open holds between the narrower ones.
 -- Assumes nothing.
 use mathlib.Core.Bool.{Bool, true, false}
 use mathlib.Core.List.{List, [], _∷_}
@@ -15,7 +15,7 @@ use Rattle.fixpoint.specs.Levels.{leastAmong, greatestAmong}
 use Rattle.fixpoint.specs.Restricted.{restricted, rise, fall, level}
 use Rattle.fixpoint.specs.Sets.{sets}
 use Rattle.system.specs.System.{System}
-use Rattle.evaluator.specs.ByLevels.{Decided}
+use Rattle.evaluator.specs.ByLevels.{Carried}
 use Rattle.evaluator.specs.declared.Pending.{Pending}
 
 pub record Inside (a b x : ℕ) : Type 0 where
@@ -60,16 +60,22 @@ restricted-inside n sign f zero xs a b u v = inside-step a b (f xs)
 restricted-inside n sign f (suc k) xs a b u v =
     level-inside (λ c. restricted (sets n) sign f k (c ∷ xs)) (λ c. restricted-inside n sign f k (c ∷ xs)) (sign k) (leastAmong sign (suc k)) (greatestAmong sign (suc k)) a b u v
 
--- what is decided between two bounds is decided between narrower ones
-module _ {s : System} {k : ℕ} {ys : List ℕ} {a b x : ℕ} {w : Pending} (f : Inside a b x) (d : Decided s k ys a b w) where
-  pub decided-low : Decided s k ys x b w
-  decided-low = record { value = λ i p q. d .value i p (out i p q); still = λ i p q. d .still i p (out i p q); lines = d .lines }
+-- what is carried between two bounds is carried between narrower ones
+module _ {s : System} {k : ℕ} {ys : List ℕ} {a b x : ℕ} {w : Pending} (needs : List ℕ) (f : Inside a b x) (c : Carried s k ys a b w needs) where
+  pub carried-low : Carried s k ys x b w needs
+  carried-low = (
+    record { value = λ i p q. c .0 .value i p (out i p q); still = λ i p q. c .0 .still i p (out i p q); lines = c .0 .lines },
+    (λ i p q. c .1 i p (out i p q)),
+  )
     where
       out : (i : ℕ) → isMember b i ≡ true → isMember x i ≡ false → isMember a i ≡ false
       out i p q = ne-eqb (digit a i) 1 (λ e. omega (arith, f .low i, member-digit b i true p, member-digit x i false q))
 
-  pub decided-high : Decided s k ys a x w
-  decided-high = record { value = λ i p q. d .value i (in-b i p q) q; still = λ i p q. d .still i (in-b i p q) q; lines = d .lines }
+  pub carried-high : Carried s k ys a x w needs
+  carried-high = (
+    record { value = λ i p q. c .0 .value i (in-b i p q) q; still = λ i p q. c .0 .still i (in-b i p q) q; lines = c .0 .lines },
+    (λ i p q. c .1 i (in-b i p q) q),
+  )
     where
       in-b : (i : ℕ) → isMember x i ≡ true → isMember a i ≡ false → isMember b i ≡ true
       in-b i p q = eq-eqb (digit b i) 1 (omega (arith, f .high i, member-digit x i true p, member-digit a i false q))

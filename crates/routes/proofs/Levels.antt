@@ -2,7 +2,7 @@
 -- Assumes nothing.
 use mathlib.Core.Bool.{true, false}
 use mathlib.Core.List.{List, _∷_}
-use mathlib.Core.Path.{_≡_, refl, _∙_}
+use mathlib.Core.Path.{_≡_, refl}
 use Prim.Native.Nat.{ℕ, suc, _+_, _-_, _*_, _<_}
 use native.Mathlib.Omega.{arith}
 use Rattle.sets.specs.Set.{boundedStep}
@@ -11,9 +11,6 @@ use Rattle.fixpoint.specs.Restricted.{restricted, level, restrictedQueries, lev
 use Rattle.fixpoint.proofs.Levels.{least-at-least, least-at-greatest, greatest-at-least, greatest-at-greatest}
 use Rattle.system.specs.System.{System, sign}
 use Rattle.system.specs.Query.{query}
-use Rattle.evaluator.specs.ByLevels.{Decided}
-use Rattle.evaluator.specs.declared.Pending.{Pending}
-use Rattle.evaluator.proofs.DecidedLines.{decided-all}
 use Rattle.routes.specs.declared.shared.Found.{Found}
 use Rattle.routes.specs.Parts.{Gives, leastOf, greatestOf, restrictedFrom, queriesFrom, riseFrom, riseQueries, fallFrom, fallQueries}
 use Rattle.routes.proofs.Inside.{Inside, restricted-inside, rise-inside, fall-inside}
@@ -37,10 +34,9 @@ module _ (s : System) (k : ℕ) (ys : List ℕ) (a b : ℕ) where
   greatest-inside u vs r g = rw (g .value) (fall-inside _ (λ c. restricted-inside (s .lines) (sign s) (query s) k (c ∷ ys)) a u b vs)
 
 -- with no level left, the query is made
-pub no-level : (s : System) (xs : List ℕ) (a b : ℕ) (w : Pending) (u v : List ℕ) (y : ℕ) → Decided s 0 xs a b w → y ≡ boundedStep a b (w .set)
-    → LevelGives s 0 xs a b u v (record { set = y; count = 1 })
+pub no-level : (s : System) (xs : List ℕ) (a b : ℕ) (u v : List ℕ) (y : ℕ) → y ≡ boundedStep a b (query s xs) → LevelGives s 0 xs a b u v (record { set = y; count = 1 })
 unfolding restricted restrictedQueries
-no-level s xs a b w u v y d e = record { value = e ∙ decided-all s xs a b w d; queries = refl }
+no-level s xs a b u v y e = record { value = e; queries = refl }
 
 -- The number that falls with each call of the tree routes: it is made of the levels left and of the leaves of the two trees together. Two for each level, since a
 -- level is worked out by the evaluator of its sign, which stands between it and the level below.

@@ -8,7 +8,7 @@ use Rattle.system.specs.System.{System}
 use Rattle.routes.specs.Routes.{builtLeast, builtGreatest, nestedSet, plainRun, restrictedSet, restrictedCount}
 use Rattle.share.specs.Share.{shareOf}
 use Rattle.page_layout.specs.Page.{page}
-use Rattle.samples.specs.Models.{P, Q, one, deadEnds}
+use Rattle.samples.specs.Models.{P, Q, one, deadEnds, pyrometers, oneLineTwice}
 
 -- what the definitions give, and what the papers say or what follows from them by hand
 pub record Row : Type 0 where
@@ -62,6 +62,13 @@ table =
     row (plainly (deadEnds 1) 0 15 ++ overBuilt (deadEnds 1) 0 15) (14 ∷ 14 ∷ 2 ∷ 14 ∷ 4 ∷ []) ∷
     -- Shares at a half (request W3): one good line of 16 has 62.5 thousandths, three have 187.5.
     row (shareOf 1 16 ∷ shareOf 3 16 ∷ []) (62 ∷ 188 ∷ []) ∷
+    -- Votes (request W4). Two of three: level 1 goes from no line to lines 1 and 2, then, with the vote, to lines 0 to 2, and a third round changes
+    -- nothing; level 2 goes from all lines to these, and a second round, of three queries again, changes nothing. S(4, 1) has four leaves.
+    row (plainly (pyrometers 2) 0 15 ++ overBuilt (pyrometers 2) 0 15) (7 ∷ 7 ∷ 6 ∷ 7 ∷ 16 ∷ []) ∷
+    -- All three: the vote stays unset, so that two rounds of level 1 are enough, in each of the two rounds of level 2.
+    row (plainly (pyrometers 3) 0 15 ++ overBuilt (pyrometers 3) 0 15) (6 ∷ 6 ∷ 4 ∷ 6 ∷ 16 ∷ []) ∷
+    -- One line that is selected at two levels is two operands.
+    row (plainly oneLineTwice 0 3 ++ overBuilt oneLineTwice 0 3) (3 ∷ 3 ∷ 3 ∷ 3 ∷ 4 ∷ []) ∷
     []
 
 -- every row of a table holds

@@ -1,9 +1,11 @@
 // Document 01's samples: the models and the table of the samples that are proved (specs/), and this program, which runs the others.
-// Its stored output is what document 01 says of them, for the shares what request W3 says, and P's bench page.
+// Its stored output is what document 01 says of them, what requests W3 and W4 say of the shares and the votes, and P's bench page.
 use answers::Refusal;
 use libc::STDOUT_FILENO;
+use model::Model;
 use model::Reading;
 use solver::Judged;
+use writer::Written;
 
 // Model P's file.
 const P: [u8; 52] = [
@@ -94,15 +96,73 @@ fn show_reading(name: &[u8], r: Reading) {
     }
 }
 
+// A length, or a refusal.
+fn show_written(name: &[u8], w: Written) {
+    match w {
+        Written::Length(bytes) => show_number(name, bytes as u64),
+        Written::Refused(e) => show_refusal(name, e),
+    }
+}
+
 // A file of 64 lines and 8 levels, then with 65 lines in it, then with 9 levels too.
 fn show_sizes() {
-    let mut file = [0u8; 4184];
-    writer::write(64, 8, &[0u8; 8], &[0u8; 64], &[1u64; 512], &mut file);
+    let mut file = [0u8; Model::MAX_FILE];
+    writer::write(
+        64,
+        8,
+        &[0u8; 8],
+        &[0u8; 64],
+        &[0u8; 64],
+        &[1u64; 512],
+        &mut file,
+    );
     show_reading(b"64 lines, 8 levels: ", checker::check(&file));
     file[0] = 65;
     show_reading(b"65 lines: ", checker::check(&file));
     file[2] = 9;
     show_reading(b"65 lines, 9 levels: ", checker::check(&file));
+}
+
+fn wide(x: u8) -> u64 {
+    x as u64
+}
+
+// P read and written: its new file is two bytes longer, and stands for the same model.
+fn show_new_layout() {
+    let mut signs = [9u8; 2];
+    let mut kinds = [9u8; 2];
+    let mut thresholds = [9u8; 2];
+    let mut words = [9u64; 4];
+    let read = reader::read(&P, &mut signs, &mut kinds, &mut thresholds, &mut words);
+    show_reading(b"P: ", read);
+    show_pair(b"P, thresholds: ", wide(thresholds[0]), wide(thresholds[1]));
+    let mut file = [0u8; 54];
+    show_written(
+        b"P, new file: ",
+        writer::write(2, 2, &signs, &kinds, &thresholds, &words, &mut file),
+    );
+    show_judged(
+        b"P, new file, ceiling 3: ",
+        solver::solve_plain(&file, 0, 3, 3),
+    );
+}
+
+// Three pyrometers of which a vote needs so many, two reading hot.
+fn show_votes(name: &[u8], t: u8) {
+    let mut file = [0u8; 90];
+    let written = writer::write(
+        4,
+        2,
+        &[0u8, 1],
+        &[2u8, 1, 0, 0],
+        &[t, 0, 0, 0],
+        &[14u64, 0, 0, 0, 0, 4, 8, 0],
+        &mut file,
+    );
+    match written {
+        Written::Length(_) => show_judged(name, solver::solve_built(&file, 0, 15)),
+        Written::Refused(e) => show_refusal(name, e),
+    }
 }
 
 // The bench page of P, three rows.
@@ -134,5 +194,11 @@ fn main() {
     show_judged(b"P, 1024 gaps: ", solver::solve_lent(&P, 0, 3, &gaps, &[]));
     show_number(b"share of 1 in 16: ", share::share_of(1, 16));
     show_number(b"share of 3 in 16: ", share::share_of(3, 16));
+    show_new_layout();
+    show_votes(b"votes of none: ", 0);
+    show_votes(b"votes of one: ", 1);
+    show_votes(b"votes of two: ", 2);
+    show_votes(b"votes of three: ", 3);
+    show_votes(b"votes of four: ", 4);
     show_page();
 }

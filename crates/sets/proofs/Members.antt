@@ -1,4 +1,4 @@
--- The number of members: 0 of the empty set, n of all n lines, and more of a larger set.
+-- The number of members: 0 of the empty set, n of all n lines and more of a larger set.
 -- Assumes nothing.
 use mathlib.Core.Path.{_≡_, sym, ap, _∙_}
 use Prim.Native.Nat.{ℕ, _/_, _≤_, _<_}
@@ -8,7 +8,7 @@ use lib.Arith.{bin-ind, lt-of-le-ne}
 use lib.Bits.{and-step, and-zero-r}
 use lib.Count.{ones-step, ones-ones}
 use Rattle.sets.specs.Set.{full, members}
-use Rattle.sets.proofs.Order.{_⊑_}
+use Rattle.sets.proofs.Order.{_⊑_, empty-least}
 
 pub members-empty : members 0 ≡ 0
 members-empty = ones-ones 0
@@ -36,3 +36,7 @@ members-most a b h = counted b a h .0
 
 pub members-strict : (a b : ℕ) → a ⊑ b → (a ≡ b → ⊥) → members a < members b
 members-strict a b h ne = lt-of-le-ne (members-most a b h) (λ e. ne (counted b a h .1 e))
+
+-- one at least where there is a member
+pub members-some : (x : ℕ) → (x ≡ 0 → ⊥) → 1 ≤ members x
+members-some x ne = omega (arith, members-strict 0 x (empty-least x) (λ e. ne (sym e)), members-empty)

@@ -30,9 +30,9 @@ pub fn member(x: u64, i: usize) -> bool
     (x >> i) % 2 == 1
 }
 
-// The number of members.
+// The number of members, by halves: what counts a half's fits an instruction, so that a loop around it keeps its registers.
 pub fn member_count(x: u64) -> u32
     ensures { λ r. ⌜ r ≡ members x ⌝ }
 {
-    u64::count_ones(x)
+    u32::count_ones((x / 4294967296) as u32) + u32::count_ones((x % 4294967296) as u32)
 }

@@ -20,13 +20,16 @@ pub extern "C" fn solver_read(
     file: &[u8],
     signs: &mut [u8],
     kinds: &mut [u8],
+    thresholds: &mut [u8],
     words: &mut [u64],
     answer: &mut [u64; 6],
 )
-    ensures { λ _. ⌜ now (answer .exit) ≡ sixWords (readAnswer (now (file .entry)) (length (now (signs .entry))) (length (now (kinds .entry))) (length (now (words .entry)))) ⌝ }
-    ensures { λ _. ⌜ ReadLeaves (now (file .entry)) (now (signs .entry)) (now (kinds .entry)) (now (words .entry)) (now (signs .exit)) (now (kinds .exit)) (now (words .exit)) ⌝ }
+    ensures { λ _. ⌜ now (answer .exit) ≡ sixWords (readAnswer (now (file .entry)) (length (now (signs .entry))) (length (now (kinds .entry))) (length (now (thresholds .entry))) (length (now (words .entry)))) ⌝ }
+    ensures { λ _. ⌜
+        ReadLeaves (now (file .entry)) (now (signs .entry)) (now (kinds .entry)) (now (thresholds .entry)) (now (words .entry))
+        (now (signs .exit)) (now (kinds .exit)) (now (thresholds .exit)) (now (words .exit)) ⌝ }
 {
-    put_reading(answer, reader::read(file, signs, kinds, words));
+    put_reading(answer, reader::read(file, signs, kinds, thresholds, words));
 }
 
 #[no_mangle]
@@ -35,14 +38,18 @@ pub extern "C" fn solver_write(
     d: usize,
     signs: &[u8],
     kinds: &[u8],
+    thresholds: &[u8],
     words: &[u64],
     buffer: &mut [u8],
     answer: &mut [u64; 6],
 )
-    ensures { λ _. ⌜ now (answer .exit) ≡ sixWords (writeAnswer (systemOf n d (now (signs .entry)) (now (kinds .entry)) (now (words .entry))) (length (now (buffer .entry)))) ⌝ }
-    ensures { λ _. ⌜ WriteLeaves (systemOf n d (now (signs .entry)) (now (kinds .entry)) (now (words .entry))) (now (buffer .entry)) (now (buffer .exit)) ⌝ }
+    ensures { λ _. ⌜ now (answer .exit) ≡ sixWords (writeAnswer (systemOf n d (now (signs .entry)) (now (kinds .entry)) (now (thresholds .entry)) (now (words .entry))) (length (now (buffer .entry)))) ⌝ }
+    ensures { λ _. ⌜ WriteLeaves (systemOf n d (now (signs .entry)) (now (kinds .entry)) (now (thresholds .entry)) (now (words .entry))) (now (buffer .entry)) (now (buffer .exit)) ⌝ }
 {
-    put_written(answer, writer::write(n, d, signs, kinds, words, buffer));
+    put_written(
+        answer,
+        writer::write(n, d, signs, kinds, thresholds, words, buffer),
+    );
 }
 
 #[no_mangle]

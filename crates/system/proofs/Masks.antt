@@ -1,21 +1,24 @@
 -- A mask finds what the operands of one word come to: their "or" is set where the word and the argument have a line in common,
--- their "and" where the word lies within the argument.
+-- their "and" where the word lies within the argument, and as many of them are set as lines are in both.
 -- Assumes nothing.
 use mathlib.Core.Bool.{Bool, true, false, cond, not, _&&_, _||_, or-assoc, and-assoc}
 use mathlib.Core.List.{List, [], _∷_, _++_}
-use mathlib.Core.Path.{_≡_, refl, sym, _∙_, ap}
-use Prim.Native.Nat.{ℕ, zero, suc, _+_, _*_, _%_, _^_, min, _<_}
-use native.Mathlib.Nat.{mod-eq-of-lt, mod-lt}
+use mathlib.Core.Path.{_≡_, refl, sym, _∙_, ap, ap₂}
+use Prim.Native.Nat.{ℕ, zero, suc, _+_, _*_, _%_, _^_, min, _≤_, _<_}
+use native.Mathlib.Nat.{mod-eq-of-lt, mod-lt, mod-one, one-mul}
 use native.Mathlib.Numerals.{one-add}
 use native.Mathlib.Omega.{arith}
 use borrow.Author.Tests.{eqb-true, eqb-false, eq-eqb, ne-eqb}
 use lib.Bits.{and-lt}
+use lib.Count.{ones-cat}
 use lib.Dec.{eqb}
+use lib.ListN.{length, getD, length-append}
 use lib.Pow.{mod-pow-add, pow-pos}
-use Rattle.sets.specs.Set.{isMember, intersection, isWithin}
+use Rattle.sets.specs.Set.{isMember, intersection, isWithin, members}
 use Rattle.sets.proofs.Order.{digit, digit-meet}
 use Rattle.sets.proofs.Membership.{member-digit}
-use Rattle.system.specs.Query.{any, all, selected}
+use Rattle.sets.proofs.Members.{members-empty, members-full}
+use Rattle.system.specs.Query.{any, all, countSet, selected, operands, operandCount}
 
 pub any-append : (bs cs : List Bool) → any (bs ++ cs) ≡ (any bs || any cs)
 any-append [] cs = refl
@@ -24,6 +27,14 @@ any-append (b ∷ bs) cs = ap (λ (t : Bool). b || t) (any-append bs cs) ∙ sym
 pub all-append : (bs cs : List Bool) → all (bs ++ cs) ≡ (all bs && all cs)
 all-append [] cs = refl
 all-append (b ∷ bs) cs = ap (λ (t : Bool). b && t) (all-append bs cs) ∙ sym (and-assoc b (all bs) (all cs))
+
+pub count-append : (bs cs : List Bool) → countSet (bs ++ cs) ≡ countSet bs + countSet cs
+count-append [] cs = omega arith
+count-append (b ∷ bs) cs = go b (countSet bs) (count-append bs cs)
+  where
+    go : (t : Bool) {n : ℕ} (m : ℕ) → n ≡ m + countSet cs → cond t (suc n) n ≡ cond t (suc m) m + countSet cs
+    go true m e = omega arith
+    go false m e = e
 
 -- a number's digits below m + 1 are those below m, where the digit m is 0, and more by 2 ^ m, where it is 1
 digit-zero : (y m : ℕ) → digit y m ≡ 0 → y % 2 ^ suc m ≡ y % 2 ^ m
@@ -79,6 +90,25 @@ all-below (suc m) w x = go (isMember w m) (isMember x m) refl refl (all-below m 
         (sym (ne-eqb (y % 2 ^ m) (2 ^ m + w % 2 ^ m) (λ q. omega (arith, low y))))
     go false t e f ih = rw (e, digit-zero y m (meet-digit w x m false t e f ∙ omega arith), digit-zero w m (member-digit w m false e)) ih
 
+members-more : (m y : ℕ) → members (2 ^ m + y % 2 ^ m) ≡ suc (members (y % 2 ^ m))
+members-more m y = omega (arith, ones-cat m 1 (y % 2 ^ m) (mod-lt y (pow-pos m)), ap (λ (z : ℕ). members (z + y % 2 ^ m)) (one-mul (2 ^ m)), members-full 1)
+
+count-below : (m w x : ℕ) → countSet (selected m w x) ≡ members (intersection w x % 2 ^ m)
+unfolding selected
+count-below zero w x = sym (ap members (mod-one (intersection w x)) ∙ members-empty)
+count-below (suc m) w x = go (isMember w m) (isMember x m) refl refl (count-below m w x)
+  where
+    y : ℕ
+    y = intersection w x
+
+    go : (s t : Bool) → isMember w m ≡ s → isMember x m ≡ t → countSet (selected m w x) ≡ members (y % 2 ^ m)
+        → countSet (cond (isMember w m) (isMember x m ∷ selected m w x) (selected m w x)) ≡ members (y % 2 ^ suc m)
+    go true true e f ih =
+        rw (e, f, digit-one y m (meet-digit w x m true true e f))
+        (ap suc ih ∙ sym (members-more m y))
+    go true false e f ih = rw (e, f, digit-zero y m (meet-digit w x m true false e f)) ih
+    go false t e f ih = rw (e, digit-zero y m (meet-digit w x m false t e f ∙ omega arith)) ih
+
 -- all 64 of them, in words
 module _ (w x : ℕ) (lw : w < 2 ^ 64) (lx : x < 2 ^ 64) where
   whole : intersection w x % 2 ^ 64 ≡ intersection w x
@@ -89,3 +119,26 @@ module _ (w x : ℕ) (lw : w < 2 ^ 64) (lx : x < 2 ^ 64) where
 
   pub all-selected : all (selected 64 w x) ≡ isWithin w x
   all-selected = all-below 64 w x ∙ rw (whole, mod-eq-of-lt lw)
+
+  pub count-selected : countSet (selected 64 w x) ≡ members (intersection w x)
+  count-selected = count-below 64 w x ∙ ap members whole
+
+-- a word selects as many operands as it has members, whatever the argument
+selected-length : (m w x : ℕ) → length (selected m w x) ≡ members (w % 2 ^ m)
+unfolding selected
+selected-length zero w x = sym (ap members (mod-one w) ∙ members-empty)
+selected-length (suc m) w x = go (isMember w m) refl (selected-length m w x)
+  where
+    go : (s : Bool) → isMember w m ≡ s → length (selected m w x) ≡ members (w % 2 ^ m)
+        → length (cond (isMember w m) (isMember x m ∷ selected m w x) (selected m w x)) ≡ members (w % 2 ^ suc m)
+    go true e ih = rw (e, digit-one w m (member-digit w m true e)) (ap suc ih ∙ sym (members-more m w))
+    go false e ih = rw (e, digit-zero w m (member-digit w m false e)) ih
+
+-- So a query looks at as many bits of a line as `operandCount` says (request W4).
+pub operands-counted : (ws xs : List ℕ) → length ws ≤ length xs → ((k : ℕ) → getD ws k 0 < 2 ^ 64) → length (operands ws xs) ≡ operandCount ws
+unfolding operands
+operands-counted [] xs h below = refl
+operands-counted (w ∷ ws) [] h below = absurd (omega arith)
+operands-counted (w ∷ ws) (x ∷ xs) h below =
+    length-append (selected 64 w x) (operands ws xs)
+    ∙ ap₂ _+_ (selected-length 64 w x ∙ ap members (mod-eq-of-lt (below 0))) (operands-counted ws xs (omega arith) (λ k. below (suc k)))

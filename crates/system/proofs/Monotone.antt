@@ -1,11 +1,12 @@
--- The query is monotone in every argument, whatever the lines' kinds and words, and its result has no line of n or more.
+-- The query is monotone in every argument, whatever the lines' kinds, thresholds and words, and its result has no line of n or more.
 -- Assumes nothing.
 use mathlib.Core.Bool.{Bool, true, false, cond, true≢false, _&&_, _||_}
 use mathlib.Core.List.{List, [], _∷_, _++_}
 use mathlib.Core.Path.{_≡_, refl, sym}
-use Prim.Native.Nat.{ℕ, zero, suc, _^_, _<_}
+use Prim.Native.Nat.{ℕ, zero, suc, _^_, _≤_, _<_}
 use native.Mathlib.Omega.{arith}
-use native.Mathlib.Nat.{lt-trans}
+use native.Mathlib.Nat.{lt-trans, le-trans}
+use borrow.Author.Tests.{le-leb, leb-true}
 use lib.ListN.{getD}
 use lib.Pow.{pow-pos, pow-lt}
 use Rattle.sets.specs.Set.{isMember, union}
@@ -15,7 +16,7 @@ use Rattle.sets.proofs.Range.{union-below}
 use Rattle.fixpoint.specs.Lawful.{MonotoneQuery, Below, nil⊑, cons⊑}
 use Rattle.fixpoint.specs.Sets.{sets}
 use Rattle.system.specs.System.{System}
-use Rattle.system.specs.Query.{any, all, valueOf, selected, operands, wordsOf, setOf, query}
+use Rattle.system.specs.Query.{any, all, countSet, valueOf, selected, operands, wordsOf, lineValue, setOf, query}
 
 -- bits of which each that is set stays set
 data Rises : List Bool → List Bool → Type 0 where
@@ -44,9 +45,20 @@ all-rises (bit {b} {c} h r) e = go b c h e (all-rises r)
     go true false h e ih = absurd (true≢false (sym (h refl)))
     go false c h e ih = absurd (true≢false (sym e))
 
-value-rises : (kind : ℕ) {bs cs : List Bool} → Rises bs cs → valueOf kind bs ≡ true → valueOf kind cs ≡ true
-value-rises zero = any-rises
-value-rises (suc k) = all-rises
+count-rises : {bs cs : List Bool} → Rises bs cs → countSet bs ≤ countSet cs
+count-rises none = omega arith
+count-rises (bit {b} {c} h r) = go b c h (count-rises r)
+  where
+    go : {s t : ℕ} (b c : Bool) → (b ≡ true → c ≡ true) → s ≤ t → cond b (suc s) s ≤ cond c (suc t) t
+    go true true h ih = omega arith
+    go true false h ih = absurd (true≢false (sym (h refl)))
+    go false true h ih = omega arith
+    go false false h ih = ih
+
+value-rises : (kind t : ℕ) {bs cs : List Bool} → Rises bs cs → valueOf kind t bs ≡ true → valueOf kind t cs ≡ true
+value-rises zero t r e = any-rises r e
+value-rises (suc zero) t r e = all-rises r e
+value-rises (suc (suc k)) t {bs} {cs} r e = le-leb t (countSet cs) (le-trans (leb-true t (countSet bs) e) (count-rises r))
 
 selected-rises : (m w x y : ℕ) → x ⊑ y → Rises (selected m w x) (selected m w y)
 unfolding selected
@@ -83,8 +95,8 @@ set-rises (suc n) p q h =
 pub query-monotone : (m : System) → MonotoneQuery (sets (m .lines)) (query m)
 unfolding query
 query-monotone m xs ys p =
-    set-rises (m .lines) (λ i. valueOf (getD (m .kinds) i 0) (operands (wordsOf m i) xs)) (λ i. valueOf (getD (m .kinds) i 0) (operands (wordsOf m i) ys))
-    (λ i. value-rises (getD (m .kinds) i 0) (operands-rise (m .lines) (wordsOf m i) p))
+    set-rises (m .lines) (λ i. lineValue m i (operands (wordsOf m i) xs)) (λ i. lineValue m i (operands (wordsOf m i) ys))
+    (λ i. value-rises (getD (m .kinds) i 0) (getD (m .thresholds) i 0) (operands-rise (m .lines) (wordsOf m i) p))
 
 pub set-below : (n : ℕ) (p : ℕ → Bool) → setOf n p < 2 ^ n
 unfolding setOf

@@ -9,7 +9,7 @@ use lib.ListN.{getD}
 use Rattle.sets.specs.Set.{isMember}
 use Rattle.sets.proofs.Membership.{member-empty}
 use Rattle.system.specs.System.{System}
-use Rattle.system.specs.Query.{valueOf, selected, operands, wordsOf, WithoutOperands, query}
+use Rattle.system.specs.Query.{valueOf, selected, operands, wordsOf, lineValue, WithoutOperands, query}
 use Rattle.system.proofs.LineSets.{member-set}
 
 selected-none : (m x : ℕ) → selected m 0 x ≡ []
@@ -24,12 +24,12 @@ no-operands (w ∷ ws) [] h = refl
 no-operands (w ∷ ws) (x ∷ xs) h = rw (h 0, selected-none 64 x) (no-operands ws xs (λ k. h (suc k)))
 
 module _ (m : System) (i : ℕ) (l : i < m .lines) (none : WithoutOperands m i) (xs : List ℕ) where
-  value-of-none : isMember (query m xs) i ≡ valueOf (getD (m .kinds) i 0) []
+  value-of-none : isMember (query m xs) i ≡ lineValue m i []
   unfolding query
   value-of-none = member-set (m .lines) _ i ∙ rw (lt-ltb i (m .lines) l, no-operands (wordsOf m i) xs none)
 
   pub any-of-none : getD (m .kinds) i 0 ≡ 0 → isMember (query m xs) i ≡ false
-  any-of-none kind = value-of-none ∙ ap (λ (k : ℕ). valueOf k []) kind
+  any-of-none kind = value-of-none ∙ ap (λ (k : ℕ). valueOf k (getD (m .thresholds) i 0) []) kind
 
   pub all-of-none : getD (m .kinds) i 0 ≡ 1 → isMember (query m xs) i ≡ true
-  all-of-none kind = value-of-none ∙ ap (λ (k : ℕ). valueOf k []) kind
+  all-of-none kind = value-of-none ∙ ap (λ (k : ℕ). valueOf k (getD (m .thresholds) i 0) []) kind

@@ -30,7 +30,7 @@ pub used : (file : List ℕ) (n d : ℕ) → InUse file n d → Used file n d
 used file n d h =
     let c = checked file {a = reading.Accepted (countsOf n d)} (sym h) {m = countsOf n d} refl in
     record {
-      held = record { few-lines = c .limits .0; few-levels = c .limits .1; whole = c .room };
+      held = c .held;
       line-count = (omega (arith, c .counts .lines, c .accepted .header .lines-least), c .limits .0);
       some-levels = omega (arith, c .counts .levels, c .accepted .header .levels-least);
       system = c .system;

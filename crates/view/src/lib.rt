@@ -33,7 +33,8 @@ fn plain_at(file: &[u8], lines: usize, levels: usize, a: u64, b: u64, ceiling: u
 {
     let m = Model { lines, levels };
     let w = evaluator::begin(file, m);
-    plain_route::plain_level(file, m, a, b, levels, w, ceiling)
+    let needs = evaluator::initial_needs(file, m);
+    plain_route::plain_level(file, m, a, b, levels, w, &needs, ceiling)
 }
 
 // The work: the restricted set over the built-in trees for the file's lines.
@@ -43,7 +44,8 @@ fn built_at(file: &[u8], lines: usize, levels: usize, a: u64, b: u64) -> Found
 {
     let m = Model { lines, levels };
     let w = evaluator::begin(file, m);
-    built_route::built_level(file, m, levels, w, a, b, lines, lines)
+    let needs = evaluator::initial_needs(file, m);
+    built_route::built_level(file, m, levels, w, &needs, a, b, lines, lines)
 }
 
 // The work: the restricted set over two lent trees, given by their heights and gaps.
@@ -63,7 +65,8 @@ fn lent_at(
 {
     let m = Model { lines, levels };
     let w = evaluator::begin(file, m);
-    lent_route::lent_level(file, m, levels, w, a, b, hu, u, hv, v)
+    let needs = evaluator::initial_needs(file, m);
+    lent_route::lent_level(file, m, levels, w, &needs, a, b, hu, u, hv, v)
 }
 
 // A view of a file, made with the counts that checking gave.

@@ -22,11 +22,11 @@ write-refused m buffer r h = record { answer = refused-answer h (made _); left =
 pub write-accepted :
     (m : System) (buffer buffer′ : List ℕ) (k : Model) (e bytes : ℕ) → writeNumber m (length buffer) ≡ 0 → Sliced m → AcceptedAs e (m .lines) (m .levels) k
     → bytes ≡ fileLength (k .lines) (k .levels)
-    → buffer′ ≡ encode (systemOf (k .lines) (k .levels) (m .signs) (m .kinds) (m .words)) ++ drop (fileLength (k .lines) (k .levels)) buffer
+    → buffer′ ≡ encode (systemOf (k .lines) (k .levels) (m .signs) (m .kinds) (m .thresholds) (m .words)) ++ drop (fileLength (k .lines) (k .levels)) buffer
     → WriteSays m buffer (written.Length bytes) buffer′
 write-accepted m buffer buffer′ k e bytes none sliced counts size wrote =
     let sizes = ap₂ fileLength (counts .lines) (counts .levels) in
-    let given = ap₂ (λ (i j : ℕ). systemOf i j (m .signs) (m .kinds) (m .words)) (counts .lines) (counts .levels) in
+    let given = ap₂ (λ (i j : ℕ). systemOf i j (m .signs) (m .kinds) (m .thresholds) (m .words)) (counts .lines) (counts .levels) in
     record {
       answer = ap made (size ∙ sizes) ∙ sym (ap (λ (x : ℕ). unless x (made (fileLength (m .lines) (m .levels)))) none);
       left =

@@ -15,6 +15,8 @@ const MAX_LINES: usize = 64;
 const MAX_LEVELS: usize = 8;
 const MAX_GAPS: usize = 1023;
 const SIGNS_AT: usize = 16;
+const ALL: u8 = 1;
+const VOTE: u8 = 2;
 
 /// A checked file with its two counts.
 #[derive(Clone, Copy)]
@@ -22,6 +24,8 @@ struct Model<'a> {
     file: &'a [u8],
     lines: usize,
     levels: usize,
+    /// The bytes of a line among the kinds: its kind and its threshold, in an old file its kind alone.
+    record: usize,
 }
 
 /// A set, and the queries made on the way to it.
@@ -51,7 +55,7 @@ fn full_set(n: usize) -> u64 {
 }
 
 impl<'a> Model<'a> {
-    /// Refusals 1 to 7.
+    /// Refusals 1 to 7 and 14.
     fn check(file: &'a [u8]) -> Result<Model<'a>, u64> {
         if file.len() < SIGNS_AT {
             return Err(1);
@@ -63,7 +67,8 @@ impl<'a> Model<'a> {
         if levels == 0 || levels > MAX_LEVELS {
             return Err(3);
         }
-        let model = Model { file, lines, levels };
+        let record = if u32_at(file, 12) == SIGNS_AT + levels + lines { 1 } else { 2 };
+        let model = Model { file, lines, levels, record };
         let offsets = [SIGNS_AT, model.kinds_at(), model.words_at()];
         if [u32_at(file, 4), u32_at(file, 8), u32_at(file, 12)] != offsets {
             return Err(4);
@@ -71,17 +76,27 @@ impl<'a> Model<'a> {
         if file.len() != model.words_at() + 8 * lines * levels {
             return Err(5);
         }
-        if file[SIGNS_AT..model.words_at()].iter().any(|&byte| byte > 1) {
+        let largest_kind = if record == 1 { ALL } else { VOTE };
+        let over = |i: usize| model.kind(i) > largest_kind;
+        if file[SIGNS_AT..model.kinds_at()].iter().any(|&sign| sign > 1) || (0..lines).any(over) {
             return Err(6);
         }
         let word = |at: usize| u64_at(file, model.words_at() + 8 * at);
         if (0..lines * levels).any(|at| word(at) & !full_set(lines) != 0) {
             return Err(7);
         }
+        let operands = |i: usize| (0..levels).map(|level| word(levels * i + level).count_ones()).sum::<u32>();
+        let misfits = |i: usize| match model.threshold(i) as u32 {
+            0 => model.kind(i) == VOTE,
+            t => model.kind(i) != VOTE || t > operands(i),
+        };
+        if (0..lines).any(misfits) {
+            return Err(14);
+        }
         Ok(model)
     }
 
-    /// Refusals 1 to 7 and 9.
+    /// Refusals 1 to 7, 14 and 9.
     fn admit(file: &'a [u8], a: u64, b: u64) -> Result<Model<'a>, u64> {
         let model = Model::check(file)?;
         if (a | b) & !full_set(model.lines) != 0 || a & !b != 0 {
@@ -95,7 +110,20 @@ impl<'a> Model<'a> {
     }
 
     fn words_at(self) -> usize {
-        SIGNS_AT + self.levels + self.lines
+        self.kinds_at() + self.record * self.lines
+    }
+
+    fn kind(self, i: usize) -> u8 {
+        self.file[self.kinds_at() + self.record * i]
+    }
+
+    /// How many operands a vote needs; 0 in other lines.
+    fn threshold(self, i: usize) -> u8 {
+        if self.record == 1 {
+            0
+        } else {
+            self.file[self.kinds_at() + 2 * i + 1]
+        }
     }
 
     fn is_greatest(self, level: usize) -> bool {

@@ -68,7 +68,7 @@ pub fn page(file: &[u8], buffer: &mut [u8]) -> Answer {
     let mut next = end_row(buffer, 0, at);
     for i in 0..n {
         at = put_right(buffer, next, 2, i as u64);
-        at = put(buffer, at, if file[m.kinds_at() + i] == 0 { b" any " } else { b" all " });
+        at = put(buffer, at, [b" any ", b" all ", b" vot "][m.kind(i) as usize]);
         at = put(buffer, at, if set >> i & 1 == 1 { b"+" } else { b"-" });
         next = end_row(buffer, next, at);
     }

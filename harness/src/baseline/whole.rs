@@ -1,21 +1,29 @@
 //! A whole query at each leaf, and the recursion of document 01.
 
-use super::{answer, u64_at, Found, Lent, Model};
+use super::{answer, u64_at, Found, Lent, Model, ALL, VOTE};
 use crate::Answer;
 
 impl Model<'_> {
-    /// One query: the "or" or the "and" of each line's operands, up to the first word that decides it.
+    /// One query: each line by its operands, up to the first word that decides it.
     fn query(self, xs: &[u64; 8]) -> u64 {
-        let kinds = &self.file[self.kinds_at()..self.words_at()];
+        let records = self.file[self.kinds_at()..self.words_at()].chunks_exact(self.record);
         let lines = self.file[self.words_at()..].chunks_exact(8 * self.levels);
         let mut set = 0;
-        for (i, (&kind, line)) in kinds.iter().zip(lines).enumerate() {
+        for (i, (record, line)) in records.zip(lines).enumerate() {
             let words = line.chunks_exact(8).map(|bytes| u64_at(bytes, 0));
             let mut pairs = words.zip(xs);
-            let value = if kind == 0 {
-                pairs.any(|(word, x)| word & x != 0)
-            } else {
-                pairs.all(|(word, x)| word & !x == 0)
+            let value = match record[0] {
+                VOTE => {
+                    let mut needed = record[1] as u32;
+                    pairs.any(|(word, x)| {
+                        let hits = (word & x).count_ones();
+                        let reached = hits >= needed;
+                        needed = needed.saturating_sub(hits);
+                        reached
+                    })
+                }
+                ALL => pairs.all(|(word, x)| word & !x == 0),
+                _ => pairs.any(|(word, x)| word & x != 0),
             };
             set |= (value as u64) << i;
         }

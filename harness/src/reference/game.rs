@@ -3,9 +3,10 @@
 //! A play goes from a line to one of its operands and on to that operand's line. At an "any" line the verifier moves,
 //! at an "all" line the refuter. The outermost level that is read again and again decides an endless play: the
 //! verifier wins if it is greatest, the refuter if it is least. Whoever must move and cannot, at a line without operands, loses.
-//! A line of A is won at once, a line outside B lost.
+//! A line of A is won at once, a line outside B lost. Votes are rewritten first.
 
-use super::model::{Model, Set};
+use super::model::{Kind, Model, Set};
+use super::votes::without_votes;
 
 struct Position {
     /// Whether the verifier moves here.
@@ -22,30 +23,35 @@ struct Game {
 
 /// The nested fixpoint between A and B.
 pub fn winning_lines(model: &Model, a: &[bool], b: &[bool]) -> Set {
-    let game = game_of(model, a, b);
+    let (rewritten, lower, upper) = without_votes(model, a, b);
+    let game = game_of(&rewritten, &lower, &upper);
     let mut won = game.solve(&vec![true; game.positions.len()]);
     won.truncate(model.lines());
     won
 }
 
-/// Positions: the lines, then line j as valued at level k for each k and j. An even priority is the verifier's; a
+/// Positions: the lines, then each line that is read at a level, as valued there. An even priority is the verifier's; a
 /// level's is even if it is greatest, and above that of each level inside it. A line's own never decides.
 fn game_of(model: &Model, a: &[bool], b: &[bool]) -> Game {
     let n = model.lines();
+    let mut read = model.operands.concat();
+    read.sort();
+    read.dedup();
     let mut positions = Vec::new();
     for i in 0..n {
-        positions.push(if a[i] || (b[i] && model.all[i] && model.is_idle(i)) {
+        let all = model.kinds[i] == Kind::All;
+        positions.push(if a[i] || (b[i] && all && model.is_idle(i)) {
             Position { verifier: true, priority: 0, moves: vec![i] }
         } else if !b[i] || model.is_idle(i) {
             Position { verifier: true, priority: 1, moves: vec![i] }
         } else {
-            let moves = model.operands[i].iter().map(|o| n + o.level * n + o.line).collect();
-            Position { verifier: !model.all[i], priority: 0, moves }
+            let place = |o| n + read.binary_search(o).expect("it is read");
+            Position { verifier: !all, priority: 0, moves: model.operands[i].iter().map(place).collect() }
         });
     }
-    for (level, &greatest) in model.greatest.iter().enumerate() {
-        let priority = 2 * level + if greatest { 2 } else { 3 };
-        positions.extend((0..n).map(|j| Position { verifier: true, priority, moves: vec![j] }));
+    for operand in &read {
+        let priority = 2 * operand.level + if model.greatest[operand.level] { 2 } else { 3 };
+        positions.push(Position { verifier: true, priority, moves: vec![operand.line] });
     }
     let mut sources = vec![Vec::new(); positions.len()];
     for (from, position) in positions.iter().enumerate() {

@@ -9,8 +9,9 @@ pub mod page;
 pub mod plain;
 pub mod restricted;
 pub mod tree;
+pub mod votes;
 
-pub use model::{set_of, word_of, Model, Operand, Set};
+pub use model::{set_of, word_of, Kind, Model, Operand, Set};
 pub use operations::{built, judgeable, leaf_count, lent, plain, query, read, write};
-pub use page::{page, page_text, share};
+pub use page::{page, page_text, put_page, share};
 pub use tree::Tree;

@@ -25,21 +25,30 @@ pub struct Operand {
     pub line: usize,
 }
 
+/// How many of a line's operands must be set.
+#[derive(Clone, Copy, Debug, PartialEq, Eq)]
+pub enum Kind {
+    Any,
+    All,
+    /// A vote: so many of them, from 1 to all. A file's vote needs at most 255.
+    AtLeast(usize),
+}
+
 #[derive(Clone, Debug, PartialEq, Eq)]
 pub struct Model {
     /// For each level, level 1 first: whether it is greatest.
     pub greatest: Vec<bool>,
-    /// For each line: whether it is the "and" of its operands.
-    pub all: Vec<bool>,
+    pub kinds: Vec<Kind>,
     /// For each line: its operands, level 1 first, in the order of lines.
     pub operands: Vec<Vec<Operand>>,
 }
 
-/// A model's signs, kinds and words, as reading fills them and writing takes them.
+/// A model's signs, kinds, thresholds and words, as reading fills them and writing takes them.
 #[derive(Clone, Debug, PartialEq, Eq)]
 pub struct Parts {
     pub signs: Vec<u8>,
     pub kinds: Vec<u8>,
+    pub thresholds: Vec<u8>,
     pub words: Vec<u64>,
 }
 
@@ -50,7 +59,7 @@ fn number(bytes: &[u8]) -> u64 {
 
 impl Model {
     pub fn lines(&self) -> usize {
-        self.all.len()
+        self.kinds.len()
     }
 
     pub fn levels(&self) -> usize {
@@ -60,6 +69,14 @@ impl Model {
     /// Whether line i is idle: it has no operands.
     pub fn is_idle(&self, i: usize) -> bool {
         self.operands[i].is_empty()
+    }
+
+    pub fn is_vote(&self, i: usize) -> bool {
+        matches!(self.kinds[i], Kind::AtLeast(_))
+    }
+
+    pub fn has_votes(&self) -> bool {
+        (0..self.lines()).any(|i| self.is_vote(i))
     }
 
     pub fn least_levels(&self) -> usize {
@@ -74,11 +91,11 @@ impl Model {
     pub fn query(&self, arguments: &[Set]) -> Set {
         (0..self.lines())
             .map(|i| {
-                let mut operands = self.operands[i].iter();
-                if self.all[i] {
-                    operands.all(|o| arguments[o.level][o.line])
-                } else {
-                    operands.any(|o| arguments[o.level][o.line])
+                let mut values = self.operands[i].iter().map(|o| arguments[o.level][o.line]);
+                match self.kinds[i] {
+                    Kind::Any => values.any(|set| set),
+                    Kind::All => values.all(|set| set),
+                    Kind::AtLeast(t) => values.filter(|&set| set).count() >= t,
                 }
             })
             .collect()
@@ -90,11 +107,17 @@ impl Model {
         (0..self.lines()).map(|i| a[i] || (b[i] && f[i])).collect()
     }
 
-    /// The model with least and greatest, and any and all, exchanged. Its fixpoints are the complements.
+    /// The model with least and greatest, and any and all, exchanged. Its fixpoints are the complements. At least t of m
+    /// are set exactly if fewer than m - t + 1 are not.
     pub fn dual(&self) -> Model {
+        let dual = |(kind, operands): (&Kind, &Vec<Operand>)| match *kind {
+            Kind::Any => Kind::All,
+            Kind::All => Kind::Any,
+            Kind::AtLeast(t) => Kind::AtLeast(operands.len() - t + 1),
+        };
         Model {
             greatest: self.greatest.iter().map(|greatest| !greatest).collect(),
-            all: self.all.iter().map(|all| !all).collect(),
+            kinds: self.kinds.iter().zip(&self.operands).map(dual).collect(),
             operands: self.operands.clone(),
         }
     }
@@ -106,16 +129,24 @@ impl Model {
                 words[i * self.levels() + operand.level] += 1 << operand.line;
             }
         }
+        let bytes = |kind: &Kind| match *kind {
+            Kind::Any => (0, 0),
+            Kind::All => (1, 0),
+            Kind::AtLeast(t) => (2, t.try_into().expect("a file's vote needs at most 255")),
+        };
+        let (kinds, thresholds) = self.kinds.iter().map(bytes).unzip();
         Parts {
             signs: self.greatest.iter().map(|&greatest| greatest as u8).collect(),
-            kinds: self.all.iter().map(|&all| all as u8).collect(),
+            kinds,
+            thresholds,
             words,
         }
     }
 
-    /// The model of n lines and d levels with these parts, or refusal 6 or 7.
+    /// The model of n lines and d levels with these parts, or refusal 6, 7 or 14.
     pub fn from_parts(n: usize, d: usize, parts: &Parts) -> Result<Model, u64> {
-        if parts.signs.iter().chain(&parts.kinds).any(|&byte| byte != 0 && byte != 1) {
+        let only = |bytes: &[u8], known: &[u8]| bytes.iter().all(|byte| known.contains(byte));
+        if !only(&parts.signs, &[0, 1]) || !only(&parts.kinds, &[0, 1, 2]) {
             return Err(6);
         }
         let mut operands = vec![Vec::new(); n];
@@ -131,31 +162,48 @@ impl Model {
         if stray {
             return Err(7);
         }
-        Ok(Model {
-            greatest: parts.signs.iter().map(|&sign| sign == 1).collect(),
-            all: parts.kinds.iter().map(|&kind| kind == 1).collect(),
-            operands,
-        })
+        let mut kinds = Vec::new();
+        for i in 0..n {
+            kinds.push(match (parts.kinds[i], parts.thresholds[i] as usize) {
+                (0, 0) => Kind::Any,
+                (1, 0) => Kind::All,
+                (2, t) if (1..=operands[i].len()).contains(&t) => Kind::AtLeast(t),
+                _ => return Err(14),
+            });
+        }
+        Ok(Model { greatest: parts.signs.iter().map(|&sign| sign == 1).collect(), kinds, operands })
     }
 
     /// The file of the model.
     pub fn file(&self) -> Vec<u8> {
+        self.file_of_records(|kind, threshold| vec![kind, threshold])
+    }
+
+    /// The old file of a model without votes: its kinds have no thresholds beside them.
+    pub fn old_file(&self) -> Vec<u8> {
+        assert!(!self.has_votes(), "an old file has no votes");
+        self.file_of_records(|kind, _| vec![kind])
+    }
+
+    /// The file with these bytes for each line's kind and threshold.
+    fn file_of_records(&self, record: fn(u8, u8) -> Vec<u8>) -> Vec<u8> {
         let (n, d) = (self.lines(), self.levels());
-        let parts = self.parts();
+        let Parts { signs, kinds, thresholds, words } = self.parts();
+        let records: Vec<u8> = (0..n).flat_map(|i| record(kinds[i], thresholds[i])).collect();
         let mut file = Vec::new();
         file.extend([n as u8, 0, d as u8, 0]);
-        for offset in [16, 16 + d, 16 + d + n] {
+        for offset in [16, 16 + d, 16 + d + records.len()] {
             file.extend((offset as u32).to_le_bytes());
         }
-        file.extend(parts.signs);
-        file.extend(parts.kinds);
-        for word in parts.words {
+        file.extend(signs);
+        file.extend(records);
+        for word in words {
             file.extend(word.to_le_bytes());
         }
         file
     }
 
-    /// The model of a file, or the first of refusals 1 to 7.
+    /// The model of a file, or the first of refusals 1 to 7 and 14.
     pub fn from_file(file: &[u8]) -> Result<Model, u64> {
         if file.len() < 16 {
             return Err(1);
@@ -168,16 +216,25 @@ impl Model {
         if !(1..=8).contains(&d) {
             return Err(3);
         }
-        let offsets = [number(&file[4..8]), number(&file[8..12]), number(&file[12..16])];
-        if offsets != [16, 16 + d as u64, (16 + d + n) as u64] {
+        let offsets =
+            [number(&file[4..8]), number(&file[8..12]), number(&file[12..16])].map(|at| at as usize);
+        let old = offsets == [16, 16 + d, 16 + d + n];
+        if !old && offsets != [16, 16 + d, 16 + d + 2 * n] {
             return Err(4);
         }
-        let (signs, rest) = file[16..].split_at(d.min(file.len() - 16));
-        let (kinds, rest) = rest.split_at(n.min(rest.len()));
-        if rest.len() != 8 * n * d {
+        if file.len() != offsets[2] + 8 * n * d {
             return Err(5);
         }
-        let words = rest.chunks(8).map(number).collect();
-        Model::from_parts(n, d, &Parts { signs: signs.to_vec(), kinds: kinds.to_vec(), words })
+        let records = &file[16 + d..offsets[2]];
+        let (kinds, thresholds) = if old {
+            (records.to_vec(), vec![0; n])
+        } else {
+            records.chunks(2).map(|record| (record[0], record[1])).unzip()
+        };
+        if old && kinds.contains(&2) {
+            return Err(6);
+        }
+        let words = file[offsets[2]..].chunks(8).map(number).collect();
+        Model::from_parts(n, d, &Parts { signs: file[16..16 + d].to_vec(), kinds, thresholds, words })
     }
 }

@@ -11,7 +11,7 @@ fn strays(word: u64, n: usize) -> bool {
     (n..64).any(|line| word >> line & 1 == 1)
 }
 
-/// A file's model with the bounds as sets, or the first of refusals 1 to 7 and 9.
+/// A file's model with the bounds as sets, or the first of refusals 1 to 7, 14 and 9.
 pub fn judgeable(file: &[u8], a: u64, b: u64) -> Result<(Model, Set, Set), u64> {
     let model = Model::from_file(file)?;
     let n = model.lines();
@@ -25,32 +25,53 @@ pub fn judgeable(file: &[u8], a: u64, b: u64) -> Result<(Model, Set, Set), u64> 
     Ok((model, lower, upper))
 }
 
-pub fn read(file: &[u8], signs: &mut [u8], kinds: &mut [u8], words: &mut [u64]) -> Answer {
+pub fn read(
+    file: &[u8],
+    signs: &mut [u8],
+    kinds: &mut [u8],
+    thresholds: &mut [u8],
+    words: &mut [u64],
+) -> Answer {
     let model = match Model::from_file(file) {
         Ok(model) => model,
         Err(number) => return Answer::refused(number),
     };
-    let parts = model.parts();
-    if signs.len() < parts.signs.len() || kinds.len() < parts.kinds.len() || words.len() < parts.words.len() {
+    let (n, d) = (model.lines(), model.levels());
+    if signs.len() < d || kinds.len() < n || thresholds.len() < n || words.len() < n * d {
         return Answer::refused(12);
     }
-    signs[..parts.signs.len()].copy_from_slice(&parts.signs);
-    kinds[..parts.kinds.len()].copy_from_slice(&parts.kinds);
-    words[..parts.words.len()].copy_from_slice(&parts.words);
-    Answer { lines: model.lines() as u64, levels: model.levels() as u64, ..Answer::default() }
+    let parts = model.parts();
+    signs[..d].copy_from_slice(&parts.signs);
+    kinds[..n].copy_from_slice(&parts.kinds);
+    thresholds[..n].copy_from_slice(&parts.thresholds);
+    words[..n * d].copy_from_slice(&parts.words);
+    Answer { lines: n as u64, levels: d as u64, ..Answer::default() }
 }
 
-pub fn write(n: usize, d: usize, signs: &[u8], kinds: &[u8], words: &[u64], buffer: &mut [u8]) -> Answer {
+pub fn write(
+    n: usize,
+    d: usize,
+    signs: &[u8],
+    kinds: &[u8],
+    thresholds: &[u8],
+    words: &[u64],
+    buffer: &mut [u8],
+) -> Answer {
     if !(1..=64).contains(&n) {
         return Answer::refused(2);
     }
     if !(1..=8).contains(&d) {
         return Answer::refused(3);
     }
-    if signs.len() != d || kinds.len() != n || words.len() != n * d {
+    if signs.len() != d || kinds.len() != n || thresholds.len() != n || words.len() != n * d {
         return Answer::refused(13);
     }
-    let parts = Parts { signs: signs.to_vec(), kinds: kinds.to_vec(), words: words.to_vec() };
+    let parts = Parts {
+        signs: signs.to_vec(),
+        kinds: kinds.to_vec(),
+        thresholds: thresholds.to_vec(),
+        words: words.to_vec(),
+    };
     let file = match Model::from_parts(n, d, &parts) {
         Ok(model) => model.file(),
         Err(number) => return Answer::refused(number),

@@ -1,7 +1,7 @@
 //! The share, and the bench page laid out by Rust's own formatting. The good lines are those that win the game.
 
 use super::game::winning_lines;
-use super::model::{set_of, Model};
+use super::model::{set_of, Kind, Model};
 use crate::random::full;
 use crate::Answer;
 
@@ -18,7 +18,11 @@ pub fn page_text(model: &Model) -> String {
     let share = share(good.iter().filter(|&&wins| wins).count(), n);
     let mut rows = vec![format!("lines {n:>2} levels {d:>1} share {share:>4}")];
     for i in 0..n {
-        let kind = if model.all[i] { "all" } else { "any" };
+        let kind = match model.kinds[i] {
+            Kind::Any => "any",
+            Kind::All => "all",
+            Kind::AtLeast(_) => "vot",
+        };
         let mark = if good[i] { '+' } else { '-' };
         rows.push(format!("{i:>2} {kind} {mark}"));
     }
@@ -26,10 +30,14 @@ pub fn page_text(model: &Model) -> String {
 }
 
 pub fn page(file: &[u8], buffer: &mut [u8]) -> Answer {
-    let text = match Model::from_file(file) {
-        Ok(model) => page_text(&model),
-        Err(number) => return Answer::refused(number),
-    };
+    match Model::from_file(file) {
+        Ok(model) => put_page(&page_text(&model), buffer),
+        Err(number) => Answer::refused(number),
+    }
+}
+
+/// The same of a file that is not refused and whose page has this text.
+pub fn put_page(text: &str, buffer: &mut [u8]) -> Answer {
     if buffer.len() < text.len() {
         return Answer::refused(12);
     }

@@ -1,7 +1,7 @@
 //! Trees as linked nodes: gaps, the built-in trees, fitting, universal trees, and the models of document 001's
 //! lower bound.
 
-use super::model::{Model, Operand};
+use super::model::{Kind, Model, Operand};
 
 /// A node with its children; without any it is a leaf. All leaves of a tree are equally deep.
 #[derive(Clone, Debug, PartialEq, Eq)]
@@ -133,5 +133,5 @@ pub fn lower_bound_model(tree: &Tree) -> Model {
         }
     }
     let greatest = (0..2 * h).map(|level| level % 2 == 0).collect();
-    Model { greatest, all: vec![true; n], operands }
+    Model { greatest, kinds: vec![Kind::All; n], operands }
 }

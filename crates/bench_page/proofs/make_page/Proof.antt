@@ -84,7 +84,7 @@ put-page-requires : tie.Need-put-page-requires
 put-page-requires c κs =
     let judged = c .before .before .before in
     let whole = known (told judged) in (
-      record { few-lines = whole .limits .0; few-levels = whole .limits .1; whole = whole .room },
+      whole .laid-out,
       (found-below _ (mask (masked judged)) (found judged) whole, c .before .if1 .left),
     )
 

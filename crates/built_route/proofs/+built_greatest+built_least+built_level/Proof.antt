@@ -3,26 +3,30 @@
 -- trees; the measure of a loop is the children left.
 -- Assumes nothing.
 use mathlib.Core.List.{List, _∷_}
-use mathlib.Core.Path.{sym, _∙_}
+use mathlib.Core.Logic.{⊎-elim}
+use mathlib.Core.Path.{_≡_, sym, _∙_, subst}
 use Prim.Native.Nat.{ℕ, suc, _+_, _-_, _<_, _≤_}
 use native.Mathlib.Omega.{arith}
 use lib.ListN.{take}
 use borrow.Author.Needs.{needs}
 use borrow.Fn.Kinds.{In}
 use borrow.Fn.PlainCycle.{Measures, is, falls, and}
-use denote.Ref.{now}
+use contract.Lifetimes.{Lfts}
+use denote.Ref.{now, at-last}
 use Rattle.trees.specs.Built.{built, builtChildren}
 use Rattle.system.specs.System.{System}
-use Rattle.evaluator.specs.ByLevels.{Decided}
+use Rattle.evaluator.specs.ByLevels.{Carried, Lowered}
 use Rattle.model.specs.Held.{systemIn}
 use Rattle.evaluator.specs.declared.Pending.{Pending}
 use Rattle.routes.specs.Parts.{leastOf, greatestOf, queriesFrom}
-use Rattle.routes.proofs.Inside.{decided-low, decided-high}
+use Rattle.evaluator.proofs.DecidedLines.{lowered-none}
+use Rattle.routes.proofs.Inside.{carried-low, carried-high}
 use Rattle.routes.proofs.OverChildren.{then}
 use Rattle.routes.proofs.Levels.{LeastGives, GreatestGives, least-inside, greatest-inside, one-less}
 use Rattle.routes.proofs.ChildrenPassed.{least-begin, greatest-begin, least-child, greatest-child}
 use Rattle.built_route.proofs.BuiltLevels.{children-passed, all-passed, first-few, levelNumber, leastNumber, greatestNumber, least-called, greatest-called, least-number, greatest-number, least-leaves, greatest-leaves, least-built, greatest-built, least-few, greatest-few}
 use Rattle.evaluator.proofs.decide.Reads as decide
+use Rattle.evaluator.proofs.lower_needs.Reads as lower-needs
 use Rattle.built_route.proofs.built_greatest.Reads as greatest
 use Rattle.built_route.proofs.built_greatest.Kinds as greatest-kinds
 use Rattle.built_route.proofs.+built_greatest+built_least+built_level.Lts-built_greatest as greatest-lts
@@ -39,42 +43,42 @@ use Rattle.model.proofs.is_greatest.Reads as is-greatest
 use Rattle.built_route.proofs.+built_greatest+built_least+built_level.{statement}
 use Rattle.built_route.proofs.+built_greatest+built_least+built_level.Tie.{close}
 
-abbrev μ-greatest : Measures 1 greatest-kinds.ps ℕ
-μ-greatest κs a = greatestNumber (systemIn (a .0 .now) (a .1 .0)) (a .1 .1 .0) (a .1 .1 .1 .1 .1 .1 .0) (a .1 .1 .1 .1 .1 .1 .1 .0)
+abbrev μ-greatest : Measures 2 greatest-kinds.ps ℕ
+μ-greatest κs a = greatestNumber (systemIn (a .0 .now) (a .1 .0)) (a .1 .1 .0) (a .1 .1 .1 .1 .1 .1 .1 .0) (a .1 .1 .1 .1 .1 .1 .1 .1 .0)
 
-abbrev μ-least : Measures 1 least-kinds.ps ℕ
-μ-least κs a = leastNumber (systemIn (a .0 .now) (a .1 .0)) (a .1 .1 .0) (a .1 .1 .1 .1 .1 .1 .0) (a .1 .1 .1 .1 .1 .1 .1 .0)
+abbrev μ-least : Measures 2 least-kinds.ps ℕ
+μ-least κs a = leastNumber (systemIn (a .0 .now) (a .1 .0)) (a .1 .1 .0) (a .1 .1 .1 .1 .1 .1 .1 .0) (a .1 .1 .1 .1 .1 .1 .1 .1 .0)
 
-abbrev μ-level : Measures 1 level-kinds.ps ℕ
-μ-level κs a = levelNumber (systemIn (a .0 .now) (a .1 .0)) (a .1 .1 .0) (a .1 .1 .1 .1 .1 .1 .0) (a .1 .1 .1 .1 .1 .1 .1 .0)
+abbrev μ-level : Measures 2 level-kinds.ps ℕ
+μ-level κs a = levelNumber (systemIn (a .0 .now) (a .1 .0)) (a .1 .1 .0) (a .1 .1 .1 .1 .1 .1 .1 .0) (a .1 .1 .1 .1 .1 .1 .1 .1 .0)
 
 -- what each is given at the measure t, and what a call of it asks below t
 
-abbrev greatest-at : ℕ → In 1 greatest-kinds.ps
-greatest-at t = and 1 greatest-kinds.ps (is 1 greatest-kinds.ps μ-greatest t) greatest.Pre
+abbrev greatest-at : ℕ → In 2 greatest-kinds.ps
+greatest-at t = and 2 greatest-kinds.ps (is 2 greatest-kinds.ps μ-greatest t) greatest.Pre
 
-abbrev greatest-below : ℕ → In 1 greatest-kinds.ps
-greatest-below t = and 1 greatest-kinds.ps (falls 1 greatest-kinds.ps _<_ μ-greatest t) greatest.Pre
+abbrev greatest-below : ℕ → In 2 greatest-kinds.ps
+greatest-below t = and 2 greatest-kinds.ps (falls 2 greatest-kinds.ps _<_ μ-greatest t) greatest.Pre
 
-abbrev least-at : ℕ → In 1 least-kinds.ps
-least-at t = and 1 least-kinds.ps (is 1 least-kinds.ps μ-least t) least.Pre
+abbrev least-at : ℕ → In 2 least-kinds.ps
+least-at t = and 2 least-kinds.ps (is 2 least-kinds.ps μ-least t) least.Pre
 
-abbrev least-below : ℕ → In 1 least-kinds.ps
-least-below t = and 1 least-kinds.ps (falls 1 least-kinds.ps _<_ μ-least t) least.Pre
+abbrev least-below : ℕ → In 2 least-kinds.ps
+least-below t = and 2 least-kinds.ps (falls 2 least-kinds.ps _<_ μ-least t) least.Pre
 
-abbrev level-at : ℕ → In 1 level-kinds.ps
-level-at t = and 1 level-kinds.ps (is 1 level-kinds.ps μ-level t) level.Pre
+abbrev level-at : ℕ → In 2 level-kinds.ps
+level-at t = and 2 level-kinds.ps (is 2 level-kinds.ps μ-level t) level.Pre
 
-abbrev level-below : ℕ → In 1 level-kinds.ps
-level-below t = and 1 level-kinds.ps (falls 1 level-kinds.ps _<_ μ-level t) level.Pre
+abbrev level-below : ℕ → In 2 level-kinds.ps
+level-below t = and 2 level-kinds.ps (falls 2 level-kinds.ps _<_ μ-level t) level.Pre
 
 -- what each may call
 
 abbrev greatest-calls : ℕ → greatest-lts.Claims
-greatest-calls t = (child-lines.Asked, child-lines.Learnt, decide.Asked, decide.Learnt, level-below t, level.Post)
+greatest-calls t = (child-lines.Asked, child-lines.Learnt, decide.Asked, decide.Learnt, level-below t, level.Post, lower-needs.Asked, lower-needs.Learnt)
 
 abbrev least-calls : ℕ → least-lts.Claims
-least-calls t = (child-lines.Asked, child-lines.Learnt, decide.Asked, decide.Learnt, level-below t, level.Post)
+least-calls t = (child-lines.Asked, child-lines.Learnt, decide.Asked, decide.Learnt, level-below t, level.Post, lower-needs.Asked, lower-needs.Learnt)
 
 abbrev level-calls : ℕ → level-lts.Claims
 level-calls t =
@@ -82,16 +86,16 @@ level-calls t =
 
 -- the least level: what the children passed give
 
-record Rising (s : System) (below : ℕ) (w : Pending) (a b p q low count i : ℕ) : Type 0 where
+record Rising (s : System) (below : ℕ) (w : Pending) (needs : List ℕ) (a b p q low count i : ℕ) : Type 0 where
   within : i ≤ p
-  gives : (ys : List ℕ) → Decided s (suc below) ys a b w
+  gives : (ys : List ℕ) → Carried s (suc below) ys a b w needs
       → LeastGives s below ys a b (take i (builtChildren p (leastOf s below))) (built q (greatestOf s below)) (record { set = low; count = count })
 
 abbrev least-inv : least-lts.InvT-loop
-least-inv file m below w a b p q low₀ count₀ i₀ low count i = Rising (systemIn file m) below w a b p q low count i
+least-inv file m below w needs a b p q low₀ count₀ i₀ low count i = Rising (systemIn file m) below w needs a b p q low count i
 
 abbrev least-μ : least-lts.MeasureT-loop
-least-μ file m below w a b p q low₀ count₀ i₀ low count i = p - i
+least-μ file m below w needs a b p q low₀ count₀ i₀ low count i = p - i
 
 module _ (t : ℕ) where
   least-loop-holds : least-lts.Need-loop-holds (least-calls t) (least-at t) least.Post least-inv least-μ
@@ -105,21 +109,30 @@ module _ (t : ℕ) where
   least-decide-requires : least-lts.Need-decide-requires (least-calls t) (least-at t) least.Post least-inv least-μ
   least-decide-requires c κs =
       let pre = c .before .before .before .before .pre .1 in
-      (pre .0 .0, (pre .1 .0 .1, pre .0 .1 .1 .lines))
+      (pre .0 .0, (pre .1 .0 .1, pre .0 .1 .1 .0 .lines))
 
-  -- what the arguments above decide together with the value so far
+  -- what the arguments above and the value so far carry, with a row that this value lowers
   least-next : (c : least-lts.After-decide (least-calls t) (least-at t) least.Post least-inv least-μ)
       → let z = c .before .before .before .before .before .args in
       let loop = c .before .before .before .loop in
       let s = systemIn (now (z .file)) (z .m) in
-      (ys : List ℕ) → Decided s (suc (z .below)) ys (z .a) (z .b) (z .w) → Decided s (z .below) (loop .low ∷ ys) (loop .low) (z .b) (c .decide .result)
-  least-next c ys d =
+      (row : List ℕ) → Lowered s (z .below) (loop .low) (c .decide .result .lowered) (now (z .needs)) row
+      → (ys : List ℕ) → Carried s (suc (z .below)) ys (z .a) (z .b) (z .w) (now (z .needs))
+      → Carried s (z .below) (loop .low ∷ ys) (loop .low) (z .b) (c .decide .result .pending) row
+  least-next c row l ys d =
       let z = c .before .before .before .before .before .args in
       let loop = c .before .before .before .loop in
-      c .decide .ensures ys (decided-low (least-inside (systemIn (now (z .file)) (z .m)) (z .below) ys (z .a) (z .b) _ _ _ (loop .inv .gives ys d)) d)
+      let inside = least-inside (systemIn (now (z .file)) (z .m)) (z .below) ys (z .a) (z .b) _ _ _ (loop .inv .gives ys d) in
+      let next = c .decide .ensures .1 ys (carried-low (now (z .needs)) inside d) in
+      (next .decided, next .still-needs row l)
 
-  least-built-level-requires : least-lts.Need-built-level-requires (least-calls t) (least-at t) least.Post least-inv least-μ
-  least-built-level-requires c κs =
+  -- what the call for a child asks, with such a row
+  least-asked : (c : least-lts.After-decide (least-calls t) (least-at t) least.Post least-inv least-μ)
+      → let z = c .before .before .before .before .before .args in
+      let loop = c .before .before .before .loop in
+      (row : List ℕ) → Lowered (systemIn (now (z .file)) (z .m)) (z .below) (loop .low) (c .decide .result .lowered) (now (z .needs)) row
+      → (κs : Lfts 2) → level-below t κs (z .file, (z .m, (z .below, (c .decide .result .pending, (at-last (z .needs) row, (loop .low, (z .b, (c .before .child-lines .result, (z .q, tt)))))))))
+  least-asked c row l κs =
       let start = c .before .before .before .before .before in
       let z = start .args in
       let pre = start .pre .1 in
@@ -129,29 +142,47 @@ module _ (t : ℕ) where
       let n = child .0 in (
         omega (arith, start .pre .0, least-number s (z .below) (z .p) (z .q) _ _ (c .before .before .loop-test .taken) (child .1 (leastOf s (z .below)))),
         (
-          (pre .0 .0, (c .before .before .before .loop .low ∷ some .0, least-next c (some .0) (some .1))),
+          (pre .0 .0, (c .before .before .before .loop .low ∷ some .0, least-next c row l (some .0) (some .1))),
           ((pre .1 .0 .0, omega (arith, pre .1 .0 .1)), ((n .0, omega (arith, n .1, pre .1 .1 .0 .1)), pre .1 .1 .1)),
         ),
       )
 
-  -- one child more
-  least-more : (c : least-lts.After-built-level (least-calls t) (least-at t) least.Post least-inv least-μ)
-      → let z = c .before .before .before .before .before .before .args in
-      let loop = c .before .before .before .before .loop in
+  least-built-level-requires : least-lts.Need-built-level-requires (least-calls t) (least-at t) least.Post least-inv least-μ
+  least-built-level-requires c =
+      let z = c .before .before .before .before .before .before .before .args in
+      least-asked (c .before .before) (now (z .needs))
+      (lowered-none (systemIn (now (z .file)) (z .m)) (z .below) (c .before .before .before .before .before .loop .low) (now (z .needs)) (c .if1 .taken))
+
+  least-lower-needs-requires : least-lts.Need-lower-needs-requires (least-calls t) (least-at t) least.Post least-inv least-μ
+  least-lower-needs-requires c κs =
+      let pre = c .before .before .before .before .before .before .before .pre .1 in
+      (pre .0 .0, (pre .1 .0 .1, c .before .before .decide .ensures .0))
+
+  least-built-level-requires-2 : least-lts.Need-built-level-requires-2 (least-calls t) (least-at t) least.Post least-inv least-μ
+  least-built-level-requires-2 c = least-asked (c .before .before .before .before) (c .before .lower-needs .result) (c .before .lower-needs .ensures)
+
+  -- one child more, whichever call it was
+  least-more : (c : least-lts.Joined1 (least-calls t) (least-at t) least.Post least-inv least-μ)
+      → let z = c .before .before .before .before .before .before .before .args in
+      let loop = c .before .before .before .before .before .loop in
       let s = systemIn (now (z .file)) (z .m) in
-      (ys : List ℕ) → Decided s (suc (z .below)) ys (z .a) (z .b) (z .w)
+      (ys : List ℕ) → Carried s (suc (z .below)) ys (z .a) (z .b) (z .w) (now (z .needs))
       → LeastGives s (z .below) ys (z .a) (z .b) (take (loop .i + 1) (builtChildren (z .p) (leastOf s (z .below)))) (built (z .q) (greatestOf s (z .below)))
-      (then (record { set = loop .low; count = loop .count }) (c .built-level .result))
+      (then (record { set = loop .low; count = loop .count }) (c .if1 .child))
   least-more c ys d =
-      let z = c .before .before .before .before .before .before .args in
-      let loop = c .before .before .before .before .loop in
+      let z = c .before .before .before .before .before .before .before .args in
+      let loop = c .before .before .before .before .before .loop in
       let s = systemIn (now (z .file)) (z .m) in
-      rw (children-passed (z .p) (leastOf s (z .below)) (loop .i) _ (c .before .before .before .loop-test .taken) (c .before .before .child-lines .ensures .1 _))
-      (least-child s (z .below) ys (z .a) (z .b) _ (c .built-level .result) _ _ _ (loop .inv .gives ys d) (c .built-level .ensures (loop .low ∷ ys) (least-next (c .before) ys d)))
+      rw (children-passed (z .p) (leastOf s (z .below)) (loop .i) _ (c .before .before .before .before .loop-test .taken) (c .before .before .before .child-lines .ensures .1 _))
+      (least-child s (z .below) ys (z .a) (z .b) _ (c .if1 .child) _ _ _ (loop .inv .gives ys d)
+      (⊎-elim
+      (λ w. rw (w .2) (w .1 .ensures (loop .low ∷ ys) (least-next (c .before .before) (now (z .needs)) (lowered-none s (z .below) (loop .low) (now (z .needs)) (w .0 .taken)) ys d)))
+      (λ w. rw (w .4) (w .3 .ensures (loop .low ∷ ys) (least-next (c .before .before) (w .1 .result) (w .1 .ensures) ys d)))
+      (c .if1 .came)))
 
   least-add-count : least-lts.Need-add-count (least-calls t) (least-at t) least.Post least-inv least-μ
   least-add-count c =
-      let start = c .before .before .before .before .before .before .before in
+      let start = c .before .before .before .before .before .before .before .before in
       let z = start .args in
       let s = systemIn (now (z .file)) (z .m) in
       let pre = start .pre .1 in
@@ -159,8 +190,8 @@ module _ (t : ℕ) where
       omega (
         arith,
         least-more (c .before) (some .0) (some .1) .queries,
-        first-few (λ u. queriesFrom s (z .below) u (built (z .q) (greatestOf s (z .below)))) (z .p) (leastOf s (z .below)) (c .before .before .before .before .before .loop .i + 1),
-        least-few s (z .below) (z .p) (z .q) (omega (arith, pre .1 .0 .1, pre .0 .0 .few-levels)) (pre .1 .1 .0) (pre .1 .1 .1) (pre .1 .0 .2),
+        first-few (λ u. queriesFrom s (z .below) u (built (z .q) (greatestOf s (z .below)))) (z .p) (leastOf s (z .below)) (c .before .before .before .before .before .before .loop .i + 1),
+        least-few s (z .below) (z .p) (z .q) (omega (arith, pre .1 .0 .1, pre .0 .0 .laid-out .few-levels)) (pre .1 .1 .0) (pre .1 .1 .1) (pre .1 .0 .2),
       )
 
   least-add-i : least-lts.Need-add-i (least-calls t) (least-at t) least.Post least-inv least-μ
@@ -180,16 +211,16 @@ module _ (t : ℕ) where
 
 -- the greatest level: what the children passed give
 
-record Falling (s : System) (below : ℕ) (w : Pending) (a b p q high count i : ℕ) : Type 0 where
+record Falling (s : System) (below : ℕ) (w : Pending) (needs : List ℕ) (a b p q high count i : ℕ) : Type 0 where
   within : i ≤ q
-  gives : (ys : List ℕ) → Decided s (suc below) ys a b w
+  gives : (ys : List ℕ) → Carried s (suc below) ys a b w needs
       → GreatestGives s below ys a b (built p (leastOf s below)) (take i (builtChildren q (greatestOf s below))) (record { set = high; count = count })
 
 abbrev greatest-inv : greatest-lts.InvT-loop
-greatest-inv file m below w a b p q high₀ count₀ i₀ high count i = Falling (systemIn file m) below w a b p q high count i
+greatest-inv file m below w needs a b p q high₀ count₀ i₀ high count i = Falling (systemIn file m) below w needs a b p q high count i
 
 abbrev greatest-μ : greatest-lts.MeasureT-loop
-greatest-μ file m below w a b p q high₀ count₀ i₀ high count i = q - i
+greatest-μ file m below w needs a b p q high₀ count₀ i₀ high count i = q - i
 
 module _ (t : ℕ) where
   greatest-loop-holds : greatest-lts.Need-loop-holds (greatest-calls t) (greatest-at t) greatest.Post greatest-inv greatest-μ
@@ -203,21 +234,30 @@ module _ (t : ℕ) where
   greatest-decide-requires : greatest-lts.Need-decide-requires (greatest-calls t) (greatest-at t) greatest.Post greatest-inv greatest-μ
   greatest-decide-requires c κs =
       let pre = c .before .before .before .before .pre .1 in
-      (pre .0 .0, (pre .1 .0 .1, pre .0 .1 .1 .lines))
+      (pre .0 .0, (pre .1 .0 .1, pre .0 .1 .1 .0 .lines))
 
-  -- what the arguments above decide together with the value so far
+  -- what the arguments above and the value so far carry, with a row that this value lowers
   greatest-next : (c : greatest-lts.After-decide (greatest-calls t) (greatest-at t) greatest.Post greatest-inv greatest-μ)
       → let z = c .before .before .before .before .before .args in
       let loop = c .before .before .before .loop in
       let s = systemIn (now (z .file)) (z .m) in
-      (ys : List ℕ) → Decided s (suc (z .below)) ys (z .a) (z .b) (z .w) → Decided s (z .below) (loop .high ∷ ys) (z .a) (loop .high) (c .decide .result)
-  greatest-next c ys d =
+      (row : List ℕ) → Lowered s (z .below) (loop .high) (c .decide .result .lowered) (now (z .needs)) row
+      → (ys : List ℕ) → Carried s (suc (z .below)) ys (z .a) (z .b) (z .w) (now (z .needs))
+      → Carried s (z .below) (loop .high ∷ ys) (z .a) (loop .high) (c .decide .result .pending) row
+  greatest-next c row l ys d =
       let z = c .before .before .before .before .before .args in
       let loop = c .before .before .before .loop in
-      c .decide .ensures ys (decided-high (greatest-inside (systemIn (now (z .file)) (z .m)) (z .below) ys (z .a) (z .b) _ _ _ (loop .inv .gives ys d)) d)
+      let inside = greatest-inside (systemIn (now (z .file)) (z .m)) (z .below) ys (z .a) (z .b) _ _ _ (loop .inv .gives ys d) in
+      let next = c .decide .ensures .1 ys (carried-high (now (z .needs)) inside d) in
+      (next .decided, next .still-needs row l)
 
-  greatest-built-level-requires : greatest-lts.Need-built-level-requires (greatest-calls t) (greatest-at t) greatest.Post greatest-inv greatest-μ
-  greatest-built-level-requires c κs =
+  -- what the call for a child asks, with such a row
+  greatest-asked : (c : greatest-lts.After-decide (greatest-calls t) (greatest-at t) greatest.Post greatest-inv greatest-μ)
+      → let z = c .before .before .before .before .before .args in
+      let loop = c .before .before .before .loop in
+      (row : List ℕ) → Lowered (systemIn (now (z .file)) (z .m)) (z .below) (loop .high) (c .decide .result .lowered) (now (z .needs)) row
+      → (κs : Lfts 2) → level-below t κs (z .file, (z .m, (z .below, (c .decide .result .pending, (at-last (z .needs) row, (z .a, (loop .high, (z .p, (c .before .child-lines .result, tt)))))))))
+  greatest-asked c row l κs =
       let start = c .before .before .before .before .before in
       let z = start .args in
       let pre = start .pre .1 in
@@ -227,29 +267,47 @@ module _ (t : ℕ) where
       let n = child .0 in (
         omega (arith, start .pre .0, greatest-number s (z .below) (z .p) (z .q) _ _ (c .before .before .loop-test .taken) (child .1 (greatestOf s (z .below)))),
         (
-          (pre .0 .0, (c .before .before .before .loop .high ∷ some .0, greatest-next c (some .0) (some .1))),
+          (pre .0 .0, (c .before .before .before .loop .high ∷ some .0, greatest-next c row l (some .0) (some .1))),
           ((pre .1 .0 .0, omega (arith, pre .1 .0 .1)), (pre .1 .1 .0, (n .0, omega (arith, n .1, pre .1 .1 .1 .1)))),
         ),
       )
 
-  -- one child more
-  greatest-more : (c : greatest-lts.After-built-level (greatest-calls t) (greatest-at t) greatest.Post greatest-inv greatest-μ)
-      → let z = c .before .before .before .before .before .before .args in
-      let loop = c .before .before .before .before .loop in
+  greatest-built-level-requires : greatest-lts.Need-built-level-requires (greatest-calls t) (greatest-at t) greatest.Post greatest-inv greatest-μ
+  greatest-built-level-requires c =
+      let z = c .before .before .before .before .before .before .before .args in
+      greatest-asked (c .before .before) (now (z .needs))
+      (lowered-none (systemIn (now (z .file)) (z .m)) (z .below) (c .before .before .before .before .before .loop .high) (now (z .needs)) (c .if1 .taken))
+
+  greatest-lower-needs-requires : greatest-lts.Need-lower-needs-requires (greatest-calls t) (greatest-at t) greatest.Post greatest-inv greatest-μ
+  greatest-lower-needs-requires c κs =
+      let pre = c .before .before .before .before .before .before .before .pre .1 in
+      (pre .0 .0, (pre .1 .0 .1, c .before .before .decide .ensures .0))
+
+  greatest-built-level-requires-2 : greatest-lts.Need-built-level-requires-2 (greatest-calls t) (greatest-at t) greatest.Post greatest-inv greatest-μ
+  greatest-built-level-requires-2 c = greatest-asked (c .before .before .before .before) (c .before .lower-needs .result) (c .before .lower-needs .ensures)
+
+  -- one child more, whichever call it was
+  greatest-more : (c : greatest-lts.Joined1 (greatest-calls t) (greatest-at t) greatest.Post greatest-inv greatest-μ)
+      → let z = c .before .before .before .before .before .before .before .args in
+      let loop = c .before .before .before .before .before .loop in
       let s = systemIn (now (z .file)) (z .m) in
-      (ys : List ℕ) → Decided s (suc (z .below)) ys (z .a) (z .b) (z .w)
+      (ys : List ℕ) → Carried s (suc (z .below)) ys (z .a) (z .b) (z .w) (now (z .needs))
       → GreatestGives s (z .below) ys (z .a) (z .b) (built (z .p) (leastOf s (z .below))) (take (loop .i + 1) (builtChildren (z .q) (greatestOf s (z .below))))
-      (then (record { set = loop .high; count = loop .count }) (c .built-level .result))
+      (then (record { set = loop .high; count = loop .count }) (c .if1 .child))
   greatest-more c ys d =
-      let z = c .before .before .before .before .before .before .args in
-      let loop = c .before .before .before .before .loop in
+      let z = c .before .before .before .before .before .before .before .args in
+      let loop = c .before .before .before .before .before .loop in
       let s = systemIn (now (z .file)) (z .m) in
-      rw (children-passed (z .q) (greatestOf s (z .below)) (loop .i) _ (c .before .before .before .loop-test .taken) (c .before .before .child-lines .ensures .1 _))
-      (greatest-child s (z .below) ys (z .a) (z .b) _ (c .built-level .result) _ _ _ (loop .inv .gives ys d) (c .built-level .ensures (loop .high ∷ ys) (greatest-next (c .before) ys d)))
+      rw (children-passed (z .q) (greatestOf s (z .below)) (loop .i) _ (c .before .before .before .before .loop-test .taken) (c .before .before .before .child-lines .ensures .1 _))
+      (greatest-child s (z .below) ys (z .a) (z .b) _ (c .if1 .child) _ _ _ (loop .inv .gives ys d)
+      (⊎-elim
+      (λ w. rw (w .2) (w .1 .ensures (loop .high ∷ ys) (greatest-next (c .before .before) (now (z .needs)) (lowered-none s (z .below) (loop .high) (now (z .needs)) (w .0 .taken)) ys d)))
+      (λ w. rw (w .4) (w .3 .ensures (loop .high ∷ ys) (greatest-next (c .before .before) (w .1 .result) (w .1 .ensures) ys d)))
+      (c .if1 .came)))
 
   greatest-add-count : greatest-lts.Need-add-count (greatest-calls t) (greatest-at t) greatest.Post greatest-inv greatest-μ
   greatest-add-count c =
-      let start = c .before .before .before .before .before .before .before in
+      let start = c .before .before .before .before .before .before .before .before in
       let z = start .args in
       let s = systemIn (now (z .file)) (z .m) in
       let pre = start .pre .1 in
@@ -257,8 +315,8 @@ module _ (t : ℕ) where
       omega (
         arith,
         greatest-more (c .before) (some .0) (some .1) .queries,
-        first-few (λ v. queriesFrom s (z .below) (built (z .p) (leastOf s (z .below))) v) (z .q) (greatestOf s (z .below)) (c .before .before .before .before .before .loop .i + 1),
-        greatest-few s (z .below) (z .p) (z .q) (omega (arith, pre .1 .0 .1, pre .0 .0 .few-levels)) (pre .1 .1 .0) (pre .1 .1 .1) (pre .1 .0 .2),
+        first-few (λ v. queriesFrom s (z .below) (built (z .p) (leastOf s (z .below))) v) (z .q) (greatestOf s (z .below)) (c .before .before .before .before .before .before .loop .i + 1),
+        greatest-few s (z .below) (z .p) (z .q) (omega (arith, pre .1 .0 .1, pre .0 .0 .laid-out .few-levels)) (pre .1 .1 .0) (pre .1 .1 .1) (pre .1 .0 .2),
       )
 
   greatest-add-i : greatest-lts.Need-add-i (greatest-calls t) (greatest-at t) greatest.Post greatest-inv greatest-μ
@@ -288,7 +346,7 @@ module _ (t : ℕ) where
   level-innermost-greatest-requires : level-lts.Need-innermost-greatest-requires (level-calls t) (level-at t) level.Post
   level-innermost-greatest-requires c κs =
       let pre = c .before .before .before .before .pre .1 in
-      ((pre .0 .0, omega (arith, pre .1 .0)), pre .0 .1 .1 .lines)
+      ((pre .0 .0, omega (arith, pre .1 .0)), pre .0 .1 .1 .0 .lines)
 
   level-built-greatest-requires : level-lts.Need-built-greatest-requires (level-calls t) (level-at t) level.Post
   level-built-greatest-requires c κs =
@@ -309,8 +367,9 @@ module _ (t : ℕ) where
       let s = systemIn (now (z .file)) (z .m) in
       let next = one-less (z .k) (start .pre .1 .1 .0 .0) in
       let zero = c .before .if2 .taken in
+      let one : z .k ≡ 1 = omega (arith, next, zero) in
       (λ ys d. greatest-built s next ys (z .a) (z .b) (z .p) (z .q) _ (sym (c .before .before .before .is-greatest .ensures) ∙ c .before .before .if1 .taken) (omega (arith, start .pre))
-      (greatest-leaves s (z .k - 1) ys (z .a) (z .b) (z .p) (z .q) _ zero (λ w. c .innermost-greatest .ensures w ys (rw zero at (rw next at d)))))
+      (greatest-leaves s (z .k - 1) ys (z .a) (z .b) (z .p) (z .q) _ zero (λ w. c .innermost-greatest .ensures w ys (rw one at d))))
 
   level-returns-2 : level-lts.Need-returns-2 (level-calls t) (level-at t) level.Post
   level-returns-2 c =
@@ -323,7 +382,7 @@ module _ (t : ℕ) where
   level-innermost-least-requires : level-lts.Need-innermost-least-requires (level-calls t) (level-at t) level.Post
   level-innermost-least-requires c κs =
       let pre = c .before .before .before .before .pre .1 in
-      ((pre .0 .0, omega (arith, pre .1 .0)), pre .0 .1 .1 .lines)
+      ((pre .0 .0, omega (arith, pre .1 .0)), pre .0 .1 .1 .0 .lines)
 
   level-built-least-requires : level-lts.Need-built-least-requires (level-calls t) (level-at t) level.Post
   level-built-least-requires c κs =
@@ -344,8 +403,9 @@ module _ (t : ℕ) where
       let s = systemIn (now (z .file)) (z .m) in
       let next = one-less (z .k) (start .pre .1 .1 .0 .0) in
       let zero = c .before .if3 .taken in
+      let one : z .k ≡ 1 = omega (arith, next, zero) in
       (λ ys d. least-built s next ys (z .a) (z .b) (z .p) (z .q) _ (sym (c .before .before .before .is-greatest .ensures) ∙ c .before .before .if1 .left) (omega (arith, start .pre))
-      (least-leaves s (z .k - 1) ys (z .a) (z .b) (z .p) (z .q) _ zero (λ w. c .innermost-least .ensures w ys (rw zero at (rw next at d)))))
+      (least-leaves s (z .k - 1) ys (z .a) (z .b) (z .p) (z .q) _ zero (λ w. c .innermost-least .ensures w ys (rw one at d))))
 
   level-returns-4 : level-lts.Need-returns-4 (level-calls t) (level-at t) level.Post
   level-returns-4 c =
@@ -363,6 +423,8 @@ pub +built-greatest+built-least+built-level-spec : {M : Type 1} → statement M
     (greatest-child-lines-requires t)
     (greatest-decide-requires t)
     (greatest-built-level-requires t)
+    (greatest-lower-needs-requires t)
+    (greatest-built-level-requires-2 t)
     (greatest-add-count t)
     (greatest-add-i t)
     (greatest-loop-less t)
@@ -373,6 +435,8 @@ pub +built-greatest+built-least+built-level-spec : {M : Type 1} → statement M
     (least-child-lines-requires t)
     (least-decide-requires t)
     (least-built-level-requires t)
+    (least-lower-needs-requires t)
+    (least-built-level-requires-2 t)
     (least-add-count t)
     (least-add-i t)
     (least-loop-less t)

@@ -2,21 +2,23 @@
 -- Assumes nothing.
 use borrow.Author.Needs.{needs}
 use borrow.Author.Tests.{lt-ltb, le-ltb, eq-eqb, ne-eqb}
-use mathlib.Core.Bool.{true, cond, not}
+use mathlib.Core.Bool.{true, false, cond, not, _||_}
 use mathlib.Core.List.{List, [], _∷_, _++_}
+use mathlib.Core.Logic.{⊎-elim}
 use mathlib.Core.Path.{_≡_, refl, sym, _∙_, ap, ap₂}
-use Prim.Native.Nat.{ℕ, _≤_}
+use Prim.Native.Nat.{ℕ, _+_, _*_, _≤_}
 use native.Mathlib.Omega.{arith}
 use lib.Dec.{eqb, ltb}
 use lib.ListN.{length}
 use Rattle.answers.specs.Check.{_if_, firstOf, unless}
-use Rattle.answers.proofs.Checks.{Passes, first-after, first-before, none-first, inside}
-use Rattle.model.specs.File.{signsAt, kindsAt, wordsAt, linesIn, levelsIn}
+use Rattle.answers.proofs.Checks.{Passes, first-after, first-before, none-first, inside, same}
+use Rattle.model.specs.File.{signsAt, kindsAt, wordsAt, oldWordsAt, linesIn, levelsIn, wordsIn}
 use Rattle.numbers.specs.Numbers.{numberAt}
 use Rattle.model.specs.Checks.{countChecks}
 use Rattle.checker.specs.Checks.{layoutChecks, headerChecks}
 use Rattle.model.specs.Says.{readingAnswer, sized}
 use Rattle.model.specs.declared.layout.Model.{Model}
+use Rattle.model.proofs.Sizes.{few-words}
 use Rattle.model.proofs.Refusals.{AcceptedAs, accepted-as, refused-as}
 use Rattle.checker.proofs.check_header.Statement.{statement}
 use Rattle.checker.proofs.check_header.Tie as tie
@@ -83,32 +85,43 @@ kinds-right : (c : tie.Else3) →
     eqb (numberAt file 8 4) (kindsAt (levelsIn file)) ≡ true
 kinds-right c = kinds-test (c .before) ∙ eq-eqb _ _ (c .if3 .left)
 
-words-test : (c : tie.After-words-at) →
+new-test : (c : tie.After-words-at) →
     let file = bytes (c .before .before .before .before .before .before .before .before .before .before) in
-    eqb (numberAt file 12 4) (wordsAt (linesIn file) (levelsIn file)) ≡ eqb (c .before .u32-at3 .result) (c .words-at .result)
-words-test c =
+    eqb (wordsIn file) (wordsAt (linesIn file) (levelsIn file)) ≡ eqb (c .before .words-in .result) (c .words-at .result)
+new-test c =
     let known = accepted (c .before .before .before .before .before .before .before) in
-    sym (ap₂ eqb (c .before .u32-at3 .ensures) (c .words-at .ensures ∙ ap₂ wordsAt (known .lines) (known .levels)))
+    sym (ap₂ eqb (c .before .words-in .ensures) (c .words-at .ensures ∙ ap₂ wordsAt (known .lines) (known .levels)))
 
-words-right : (c : tie.Else4) →
+old-test : (c : tie.After-old-words-at) →
+    let file = bytes (c .before .before .before .before .before .before .before .before .before .before .before .before) in
+    eqb (wordsIn file) (oldWordsAt (linesIn file) (levelsIn file)) ≡ eqb (c .before .before .before .words-in .result) (c .old-words-at .result)
+old-test c =
+    let known = accepted (c .before .before .before .before .before .before .before .before .before) in
+    sym (ap₂ eqb (c .before .before .before .words-in .ensures) (c .old-words-at .ensures ∙ ap₂ oldWordsAt (known .lines) (known .levels)))
+
+words-right : (c : tie.Joined4) →
     let file = bytes (c .before .before .before .before .before .before .before .before .before .before .before) in
-    eqb (numberAt file 12 4) (wordsAt (linesIn file) (levelsIn file)) ≡ true
-words-right c = words-test (c .before) ∙ eq-eqb _ _ (c .if4 .left)
+    not (eqb (wordsIn file) (wordsAt (linesIn file) (levelsIn file)) || eqb (wordsIn file) (oldWordsAt (linesIn file) (levelsIn file))) ≡ false
+words-right c =
+    ⊎-elim
+    (λ w. rw (new-test (c .before), ne-eqb _ _ (w .0 .taken), old-test (record { before = record { before = c .before; if4 = w .0 }; old-words-at = w .1 }), w .2 .left))
+    (λ w. rw (new-test (c .before), eq-eqb _ _ (w .left)))
+    (c .if4 .came)
 
 -- only the length is left to check
-measured : (c : tie.After-file-length) →
+measured : (c : tie.After-struct-known) →
+    let m = model (c .before .before .before .before .before .before .before .before .before) in
     let file = bytes (c .before .before .before .before .before .before .before .before .before .before .before .before) in
-    firstOf (headerChecks file) ≡ cond (not (eqb (length file) (c .file-length .result))) 5 0
+    firstOf (headerChecks file) ≡ cond (not (eqb (length file) (c .before .before .before .words-in .result + 8 * (m .lines * m .levels)))) 5 0
 measured c =
     let known = accepted (c .before .before .before .before .before .before .before .before .before) in
+    let asked = ap₂ (λ (at k : ℕ). at + 8 * k) (c .before .before .before .words-in .ensures) (ap₂ _*_ (known .lines) (known .levels)) in
     rw (
       headed (c .before .before .before .before .before .before .before .before .before),
       signs-right (c .before .before .before .before .before .before .before),
       kinds-right (c .before .before .before .before),
       words-right (c .before),
-      c .file-length .ensures,
-      known .lines,
-      known .levels,
+      ← asked,
     )
 
 returns : tie.Need-returns
@@ -174,35 +187,60 @@ returns-4 c =
       ne-eqb _ _ (c .if3 .taken),
     )
 
-u32-at-requires-3 : tie.Need-u32-at-requires-3
-u32-at-requires-3 c κs = search needs
-
-cast-if4 : tie.Need-cast-if4
-cast-if4 c = search needs
+words-in-requires : tie.Need-words-in-requires
+words-in-requires c κs = search needs
 
 words-at-requires : tie.Need-words-at-requires
 words-at-requires c κs = limits (c .before .before .before .before .before .before)
 
+old-words-at-requires : tie.Need-old-words-at-requires
+old-words-at-requires c κs = limits (c .before .before .before .before .before .before .before .before)
+
 returns-5 : tie.Need-returns-5
 returns-5 c =
     rw (
-      headed (c .before .before .before .before .before .before .before .before),
-      signs-right (c .before .before .before .before .before .before),
-      kinds-right (c .before .before .before),
-      words-test (c .before),
-      ne-eqb _ _ (c .if4 .taken),
+      headed (c .before .before .before .before .before .before .before .before .before .before),
+      signs-right (c .before .before .before .before .before .before .before .before),
+      kinds-right (c .before .before .before .before .before),
+      new-test (c .before .before .before),
+      ne-eqb _ _ (c .before .before .if4 .taken),
+      old-test (c .before),
+      c .if5 .taken,
     )
 
-file-length-requires : tie.Need-file-length-requires
-file-length-requires c κs = limits (c .before .before .before .before .before .before .before .before)
+-- the words begin near the front, and there are few
+near : (c : tie.Joined4) → c .before .before .words-in .result ≤ 152
+near c =
+    let most = limits (c .before .before .before .before .before .before .before .before) in
+    let words = c .before .before .words-in .result in
+    ⊎-elim
+    (λ w. omega (arith, same {a = words} {b = w .1 .result} (w .2 .left), w .1 .ensures))
+    (λ w. omega (arith, w .left, c .before .words-at .ensures))
+    (c .if4 .came)
+
+few : (c : tie.After-struct-known) →
+    let m = model (c .before .before .before .before .before .before .before .before .before) in
+    m .lines * m .levels ≤ 512
+few c =
+    let most = limits (c .before .before .before .before .before .before .before .before .before) in
+    few-words (most .0) (most .1)
+
+mul-if6 : tie.Need-mul-if6
+mul-if6 c = omega (arith, few c)
+
+mul-if6-2 : tie.Need-mul-if6-2
+mul-if6-2 c = omega (arith, few c)
+
+add-if6 : tie.Need-add-if6
+add-if6 c = omega (arith, few c, near (c .before))
 
 returns-6 : tie.Need-returns-6
-returns-6 c = rw (measured (c .before), ne-eqb _ _ (c .if5 .taken))
+returns-6 c = rw (measured (c .before), ne-eqb _ _ (c .if6 .taken))
 
 returns-7 : tie.Need-returns-7
 returns-7 c =
     let known = accepted (c .before .before .before .before .before .before .before .before .before .before) in
-    rw (measured (c .before), eq-eqb _ _ (c .if5 .left)) (ap₂ sized (known .lines) (known .levels))
+    rw (measured (c .before), eq-eqb _ _ (c .if6 .left)) (ap₂ sized (known .lines) (known .levels))
 
 pub check-header-spec : {M : Type 1} → statement M
 check-header-spec =
@@ -224,10 +262,12 @@ check-header-spec =
     cast-if3
     kinds-at-requires
     returns-4
-    u32-at-requires-3
-    cast-if4
+    words-in-requires
     words-at-requires
+    old-words-at-requires
     returns-5
-    file-length-requires
+    mul-if6
+    mul-if6-2
+    add-if6
     returns-6
     returns-7)

@@ -12,7 +12,7 @@ use native.Mathlib.Omega.{arith}
 use Prim.Native.Nat.{ℕ, _+_, _*_, _≤_, _<_, _-_}
 use Rattle.sets.specs.Set.{isWithin}
 use Rattle.numbers.specs.Numbers.{numberAt}
-use Rattle.model.specs.File.{wordsAt}
+use Rattle.model.specs.File.{wordsIn}
 use Rattle.model.specs.Checks.{strays}
 use Rattle.model.proofs.Searches.{NoneBelow, below-true, below-false}
 use Rattle.model.proofs.Sizes.{line-fits, strays-mask}
@@ -21,16 +21,16 @@ use Rattle.checker.proofs.stray_selection.Statement.{statement}
 use Rattle.checker.proofs.stray_selection.Tie as tie
 
 -- j words are passed, none of them strays, and nothing is found
-record Passed (file : List ℕ) (n d at j : ℕ) (stray : Bool) : Type 0 where
-  place : at ≡ wordsAt n d + 8 * j
+record Passed (file : List ℕ) (n at j : ℕ) (stray : Bool) : Type 0 where
+  place : at ≡ wordsIn file + 8 * j
   found : stray ≡ false
-  none : NoneBelow j (λ w. strays n (numberAt file (wordsAt n d + 8 * w) 8))
+  none : NoneBelow j (λ w. strays n (numberAt file (wordsIn file + 8 * w) 8))
 
-module _ {file : List ℕ} {n d at j : ℕ} {stray : Bool} (h : Passed file n d at j stray) where
-  again : (j′ : ℕ) → j ≡ j′ → Passed file n d at j′ stray
+module _ {file : List ℕ} {n at j : ℕ} {stray : Bool} (h : Passed file n at j stray) where
+  again : (j′ : ℕ) → j ≡ j′ → Passed file n at j′ stray
   again j′ e = rw e at h
 
-  more : strays n (numberAt file (wordsAt n d + 8 * j) 8) ≡ false → (j′ : ℕ) → j + 1 ≡ j′ → Passed file n d (at + 8) j′ stray
+  more : strays n (numberAt file (wordsIn file + 8 * j) 8) ≡ false → (j′ : ℕ) → j + 1 ≡ j′ → Passed file n (at + 8) j′ stray
   more s j′ e =
       rw (← e) (record {
         place = omega arith;
@@ -39,13 +39,13 @@ module _ {file : List ℕ} {n d at j : ℕ} {stray : Bool} (h : Passed file n d 
       })
 
 abbrev Inv-loop : tie.InvT-loop
-Inv-loop file n d all at₀ stray₀ i k₀ at stray k = (k ≤ d) × Passed file n d at (i * d + k) stray
+Inv-loop file n d all at₀ stray₀ i k₀ at stray k = (k ≤ d) × Passed file n at (i * d + k) stray
 
 abbrev μ-loop : tie.MeasureT-loop
 μ-loop file n d all at₀ stray₀ i k₀ at stray k = d - k
 
 abbrev Inv-search : tie.InvT-search
-Inv-search file n d all at₀ stray₀ i₀ at stray i = (i ≤ n) × Passed file n d at (i * d) stray
+Inv-search file n d all at₀ stray₀ i₀ at stray i = (i ≤ n) × Passed file n at (i * d) stray
 
 abbrev μ-search : tie.MeasureT-search
 μ-search file n d all at₀ stray₀ i₀ at stray i = n - i
@@ -53,8 +53,8 @@ abbrev μ-search : tie.MeasureT-search
 full-set-requires : tie.Need-full-set-requires Inv-loop μ-loop Inv-search μ-search
 full-set-requires c κs = search needs
 
-words-at-requires : tie.Need-words-at-requires Inv-loop μ-loop Inv-search μ-search
-words-at-requires c κs = search needs
+words-in-requires : tie.Need-words-in-requires Inv-loop μ-loop Inv-search μ-search
+words-in-requires c κs = search needs
 
 search-holds : tie.Need-search-holds Inv-loop μ-loop Inv-search μ-search
 search-holds c = (omega arith, record { place = omega arith; found = refl; none = λ w l. absurd (omega arith) })
@@ -73,17 +73,16 @@ word-in c =
 -- what the test says of that word
 strayed : (c : tie.After-u64-at Inv-loop μ-loop Inv-search μ-search) →
     let start = c .before .before .before .before .before .before .before .before .args in
-    let n = start .m .lines in
-    let d = start .m .levels in
-    let j = c .before .before .before .before .search .i * d + c .before .before .loop .k in
+    let file = start .file .now in
+    let j = c .before .before .before .before .search .i * start .m .levels + c .before .before .loop .k in
     let all = c .before .before .before .before .before .before .full-set .result in
-    strays n (numberAt (start .file .now) (wordsAt n d + 8 * j) 8) ≡ not (isWithin (c .u64-at .result) all)
+    strays (start .m .lines) (numberAt file (wordsIn file + 8 * j) 8) ≡ not (isWithin (c .u64-at .result) all)
 strayed c =
     let start = c .before .before .before .before .before .before .before .before in
     let n = start .args .m .lines in
     ap (λ (at : ℕ). strays n (numberAt (start .args .file .now) at 8)) (sym (c .before .before .loop .inv .1 .place))
     ∙ ap (strays n) (sym (c .u64-at .ensures))
-    ∙ sym (strays-mask (c .u64-at .result) (start .pre .0 .0) (c .before .before .before .before .before .before .full-set .ensures))
+    ∙ sym (strays-mask (c .u64-at .result) (start .pre .few-lines) (c .before .before .before .before .before .before .full-set .ensures))
 
 u64-at-requires : tie.Need-u64-at-requires Inv-loop μ-loop Inv-search μ-search
 u64-at-requires c κs = omega (arith, word-in c)
@@ -114,19 +113,21 @@ search-again c = (omega arith, again (c .before .loop .inv .1) _ (omega arith))
 returns : tie.Need-returns Inv-loop μ-loop Inv-search μ-search
 returns c =
     let start = c .before .before .before .before .before .args in
+    let file = start .file .now in
     let n = start .m .lines in
     let d = start .m .levels in
     let passed = c .before .search .inv .1 in
     passed .found
-    ∙ sym (some-words (strays n) (n * d) (start .file .now) (wordsAt n d)
+    ∙ sym (some-words (strays n) (n * d) file (wordsIn file)
     ∙ below-false _ (n * d) (mul-le-mul-right d (c .search-test .left)) (passed .none))
 
 returns-2 : tie.Need-returns-2 Inv-loop μ-loop Inv-search μ-search
 returns-2 c =
     let start = c .before .before .before .before .before .before .before .before .before .args in
+    let file = start .file .now in
     let n = start .m .lines in
     let d = start .m .levels in
-    sym (some-words (strays n) (n * d) (start .file .now) (wordsAt n d)
+    sym (some-words (strays n) (n * d) file (wordsIn file)
     ∙ below-true _ (n * d) _ (word-in (c .before .before)) (strayed (c .before) ∙ ap not (ne-eqb _ _ (c .if1 .taken))))
 
 pub stray-selection-spec : {M : Type 1} → statement M
@@ -138,7 +139,7 @@ stray-selection-spec =
     Inv-search
     μ-search
     full-set-requires
-    words-at-requires
+    words-in-requires
     search-holds
     loop-holds
     u64-at-requires

@@ -1,13 +1,14 @@
 -- `encoder::put_file` meets its contract: each section is written behind those before it.
 -- Assumes nothing.
 use mathlib.Core.List.{_++_, append-assoc}
-use mathlib.Core.Path.{_≡_, refl, _∙_, ap}
-use Prim.Native.Nat.{ℕ, _+_, _*_}
+use mathlib.Core.Path.{_≡_, refl, _∙_}
+use Prim.Native.Nat.{_+_, _*_}
 use native.Mathlib.Omega.{arith}
 use denote.Ref.{now}
 use lib.ListN.{length, length-append}
-use Rattle.model.specs.File.{fileLength, headerBytes, encode}
+use Rattle.model.specs.File.{fileLength, headerBytes, lineRecords, encode}
 use Rattle.numbers.specs.Numbers.{bytesOf, wordBytes}
+use Rattle.model.proofs.RoundTrip.{records-length}
 use Rattle.lists.proofs.Front.{front-part, all-copied}
 use borrow.Author.Needs.{needs}
 use Rattle.encoder.proofs.put_file.Statement.{statement}
@@ -34,17 +35,17 @@ part-copy-end c = search needs
 copy-requires : tie.Need-copy-requires
 copy-requires c κs = search needs
 
-sub-copy-2 : tie.Need-sub-copy-2
-sub-copy-2 c = search needs
+sub-put-lines : tie.Need-sub-put-lines
+sub-put-lines c = search needs
 
-part-copy-start-2 : tie.Need-part-copy-start-2
-part-copy-start-2 c = search needs
+part-put-lines-start : tie.Need-part-put-lines-start
+part-put-lines-start c = search needs
 
-part-copy-end-2 : tie.Need-part-copy-end-2
-part-copy-end-2 c = search needs
+part-put-lines-end : tie.Need-part-put-lines-end
+part-put-lines-end c = search needs
 
-copy-requires-2 : tie.Need-copy-requires-2
-copy-requires-2 c κs = search needs
+put-lines-requires : tie.Need-put-lines-requires
+put-lines-requires c κs = search needs
 
 sub-put-words : tie.Need-sub-put-words
 sub-put-words c = search needs
@@ -65,14 +66,15 @@ returns : tie.Need-returns
 unfolding bytesOf encode
 returns c =
     let at-words = c .before .before in
-    let at-kinds = at-words .before .before .before .before in
-    let at-signs = at-kinds .before .before .before .before in
+    let at-lines = at-words .before .before .before .before in
+    let at-signs = at-lines .before .before .before .before in
     let at-header = at-signs .before .before .before .before in
     let offsets = at-header .before .before in
-    let start = offsets .before .before .before .before .before .before in
+    let start = offsets .before .before .before .before .before .before .before in
     let s = now (start .args .buffer) in
     let signs = now (start .args .signs) in
     let kinds = now (start .args .kinds) in
+    let records = lineRecords kinds (now (start .args .thresholds)) in
     let words = now (start .args .words) in
     let n = start .args .m .lines in
     let d = start .args .m .levels in
@@ -80,18 +82,18 @@ returns c =
     let w = offsets .words-at .result in
     let sizes = start .pre in
     let signs-end : 16 + length signs ≡ k = omega (arith, sizes, offsets .before .kinds-at .ensures) in
-    let kinds-end : k + length kinds ≡ w = omega (arith, sizes, offsets .before .kinds-at .ensures, offsets .words-at .ensures) in
+    let lines-end : k + 2 * length kinds ≡ w = omega (arith, sizes, offsets .before .kinds-at .ensures, offsets .words-at .ensures) in
     let words-end : w + 8 * length words ≡ fileLength n d = omega (arith, sizes, offsets .words-at .ensures) in
     let f₁ = headerBytes n d in
     let f₂ = f₁ ++ signs in
-    let f₃ = f₂ ++ kinds in
+    let f₃ = f₂ ++ records in
+    let behind-signs : length f₂ ≡ k = length-append f₁ signs ∙ signs-end in
+    let behind-lines : length f₃ ≡ w = omega (arith, length-append f₂ records, records-length kinds (now (start .args .thresholds))) in
     let e₂ =
     front-part f₁ signs s _ _ 16 (length signs) k refl signs-end (at-header .put-header .ensures)
     (all-copied signs _ _ (at-signs .copy .ensures .1)) in
-    let e₃ =
-    front-part f₂ kinds s _ _ k (length kinds) w (length-append f₁ signs ∙ signs-end) kinds-end e₂
-    (all-copied kinds _ _ (at-kinds .copy2 .ensures .1)) in
-    front-part f₃ (wordBytes words) s _ _ w (8 * length words) (fileLength n d) (length-append f₂ kinds ∙ ap (λ (j : ℕ). j + length kinds) (length-append f₁ signs ∙ signs-end) ∙ kinds-end) words-end e₃ (at-words .put-words .ensures)
+    let e₃ = front-part f₂ records s _ _ k (2 * length kinds) w behind-signs lines-end e₂ (at-lines .put-lines .ensures) in
+    front-part f₃ (wordBytes words) s _ _ w (8 * length words) (fileLength n d) behind-lines words-end e₃ (at-words .put-words .ensures)
     ∙ simp append-assoc
 
 pub put-file-spec : {M : Type 1} → statement M
@@ -105,10 +107,10 @@ put-file-spec =
     part-copy-start
     part-copy-end
     copy-requires
-    sub-copy-2
-    part-copy-start-2
-    part-copy-end-2
-    copy-requires-2
+    sub-put-lines
+    part-put-lines-start
+    part-put-lines-end
+    put-lines-requires
     sub-put-words
     part-put-words-start
     part-put-words-end

@@ -21,7 +21,7 @@ returns c =
     let start = c .before .before .before in
     let z = start .args in
     decided-none (systemIn (now (z .file)) (z .m)) (z .m .levels) _ (c .before .initial-set .ensures)
-    (c .full-set .ensures ∙ ap full (min-eq-left (start .pre .few-lines)))
+    (c .full-set .ensures ∙ ap full (min-eq-left (start .pre .laid-out .few-lines)))
 
 pub begin-spec : {M : Type 1} → statement M
 begin-spec = tie.close (tie.spec initial-set-requires full-set-requires returns)

@@ -3,7 +3,7 @@
 use denote.Ref.{now}
 use Rattle.model.specs.Held.{systemIn}
 use Rattle.model.proofs.Places.{word-room}
-use Rattle.evaluator.proofs.DecidedLines.{asked-few, decided-next}
+use Rattle.evaluator.proofs.DecidedLines.{asked-few, lowered-few, decided-next, needs-next}
 use Rattle.evaluator.proofs.decide.Statement.{statement}
 use Rattle.evaluator.proofs.decide.Tie as tie
 
@@ -13,19 +13,27 @@ selecting-requires c κs =
     let z = start .args in
     (start .pre .0, (start .pre .1 .0, asked-few (z .m .lines) (z .a) (z .b) (z .w) _ (start .pre .1 .1)))
 
-selecting-requires-2 : tie.Need-selecting-requires-2
-selecting-requires-2 c κs =
+meeting-requires : tie.Need-meeting-requires
+meeting-requires c κs =
     let start = c .before .before .before .before .before in
     let z = start .args in
     (start .pre .0, (start .pre .1 .0, asked-few (z .m .lines) (z .a) (z .b) (z .w) _ (start .pre .1 .1)))
 
 returns : tie.Need-returns
 returns c =
-    let start = c .before .before .before .before .before .before .before in
+    let start = c .before .before .before .before .before .before .before .before in
     let z = start .args in
-    decided-next (systemIn (now (z .file)) (z .m)) (z .k) (z .x) (z .a) (z .b) (z .w) (word-room (z .m .lines) (z .m .levels) (now (z .file)) (z .k) (start .pre .1 .0))
-    (c .before .before .before .selecting .result) (c .before .selecting2 .result) (c .before .before .before .selecting .ensures) (c .before .selecting2 .ensures)
-    (start .pre .1 .1)
+    let s = systemIn (now (z .file)) (z .m) in
+    let votes = start .pre .0 .votes in
+    let room = word-room (z .m .lines) (z .m .levels) (now (z .file)) (z .k) (start .pre .1 .0) in
+    let missed = c .before .before .before .before .selecting in
+    let hits = c .before .before .meeting in (
+      lowered-few s votes (z .k) (z .x) (z .a) (z .b) (z .w) (now (z .needs)) room (start .pre .1 .1) _ _ _ (hits .ensures .0) (hits .ensures .1) (missed .ensures),
+      (λ ys d. record {
+        decided = decided-next s votes (z .k) (z .x) (z .a) (z .b) (z .w) (now (z .needs)) room (start .pre .1 .1) _ _ _ (hits .ensures .0) (hits .ensures .1) (missed .ensures) ys d;
+        still-needs = needs-next s votes (z .k) (z .x) (z .a) (z .b) (z .w) (now (z .needs)) room (start .pre .1 .1) _ _ _ (hits .ensures .0) (hits .ensures .1) (missed .ensures) ys d;
+      }),
+    )
 
 pub decide-spec : {M : Type 1} → statement M
-decide-spec = tie.close (tie.spec selecting-requires selecting-requires-2 returns)
+decide-spec = tie.close (tie.spec selecting-requires meeting-requires returns)

@@ -8,10 +8,11 @@ use borrow.Author.Needs.{needs}
 use Rattle.page_layout.proofs.put_kind.Statement.{statement}
 use Rattle.page_layout.proofs.put_kind.Tie as tie
 
--- every kind but 0 is all
-other-kind : (kind : ℕ) → (kind ≡ 0 → ⊥) → kindWord kind ≡ 97 ∷ 108 ∷ 108 ∷ []
-other-kind zero h = absurd (h refl)
-other-kind (suc k) h = refl
+-- every kind but 0 and 1 is a vote
+vote-word : (kind : ℕ) → (kind ≡ 0 → ⊥) → (kind ≡ 1 → ⊥) → kindWord kind ≡ 118 ∷ 111 ∷ 116 ∷ []
+vote-word zero h k = absurd (h refl)
+vote-word (suc zero) h k = absurd (k refl)
+vote-word (suc (suc n)) h k = refl
 
 slice-aggregate-put : tie.Need-slice-aggregate-put
 slice-aggregate-put c = search needs
@@ -25,6 +26,12 @@ slice-aggregate-put-2 c = search needs
 put-requires-2 : tie.Need-put-requires-2
 put-requires-2 c κs = search needs
 
+slice-aggregate-put-3 : tie.Need-slice-aggregate-put-3
+slice-aggregate-put-3 c = search needs
+
+put-requires-3 : tie.Need-put-requires-3
+put-requires-3 c κs = search needs
+
 same-length : tie.Need-same-length
 same-length c = search needs
 
@@ -35,9 +42,15 @@ same-length-2 : tie.Need-same-length-2
 same-length-2 c = search needs
 
 returns-2 : tie.Need-returns-2
-returns-2 c =
+returns-2 c = rw (c .before .before .before .before .before .if2 .taken) (c .before .before .put2 .ensures)
+
+same-length-3 : tie.Need-same-length-3
+same-length-3 c = search needs
+
+returns-3 : tie.Need-returns-3
+returns-3 c =
     let test = c .before .before .before .before .before in
-    rw (other-kind (test .before .before .args .kind) (test .if1 .left)) (c .before .before .put2 .ensures)
+    rw (vote-word _ (test .before .if1 .left) (test .if2 .left)) (c .before .before .put3 .ensures)
 
 pub put-kind-spec : {M : Type 1} → statement M
 put-kind-spec =
@@ -47,7 +60,11 @@ put-kind-spec =
     put-requires
     slice-aggregate-put-2
     put-requires-2
+    slice-aggregate-put-3
+    put-requires-3
     same-length
     returns
     same-length-2
-    returns-2)
+    returns-2
+    same-length-3
+    returns-3)

@@ -1,57 +1,52 @@
 -- `page_layout::put_line_rows` meets its contract. The loop's invariant: the rows so far are put; the measure is the rows to come.
 -- Assumes nothing.
 use mathlib.Core.List.{List}
-use mathlib.Core.Path.{_≡_, refl, sym, _∙_, ap}
+use mathlib.Core.Path.{_≡_, refl, _∙_}
 use Prim.Native.Nat.{ℕ, _+_, _-_, _*_, _≤_}
 use native.Mathlib.Numerals.{add-one}
 use native.Mathlib.Omega.{arith}
 use denote.Ref.{now}
 use lib.ListN.{length, getD}
 use Rattle.sets.specs.Set.{isMember}
-use Rattle.model.proofs.Places.{line-kind}
+use Rattle.model.specs.Held.{systemIn}
+use Rattle.model.specs.declared.layout.Model.{Model}
 use Rattle.text.specs.Text.{Puts}
 use Rattle.text.proofs.Digits.{puts-nothing, puts-then, puts-length}
 use Rattle.page_layout.specs.Page.{lineRow, rowsOf}
-use Rattle.page_layout.proofs.Rows.{line-row-length, rows-same}
+use Rattle.page_layout.proofs.Rows.{line-row-length}
 use borrow.Author.Needs.{needs}
 use Rattle.page_layout.proofs.put_line_rows.Statement.{statement}
 use Rattle.page_layout.proofs.put_line_rows.Tie as tie
 
--- the row of line i, with its kind as the file has it
-abbrev rowAt : List ℕ → ℕ → ℕ → ℕ → List ℕ
-rowAt file kinds-at good i = lineRow i (getD file (kinds-at + i) 0) (isMember good i)
+-- the row of line i
+abbrev rowAt : List ℕ → Model → ℕ → ℕ → List ℕ
+rowAt file m good i = lineRow i (getD (systemIn file m .kinds) i 0) (isMember good i)
 
-record Rowing (file : List ℕ) (good : ℕ) (out₀ : List ℕ) (at kinds-at n : ℕ) (out : List ℕ) (next i : ℕ) : Type 0 where
-  few : i ≤ n
+record Rowing (file : List ℕ) (m : Model) (good : ℕ) (out₀ : List ℕ) (at : ℕ) (out : List ℕ) (next i : ℕ) : Type 0 where
+  few : i ≤ m .lines
   long : length out ≡ length out₀
   place : next ≡ at + 41 * i
-  put : Puts at (rowsOf i (rowAt file kinds-at good)) out₀ out next
+  put : Puts at (rowsOf i (rowAt file m good)) out₀ out next
 
 abbrev Inv-loop : tie.InvT-loop
-Inv-loop file good out₀ at kinds-at n next₀ i₀ out next i = Rowing file good out₀ at kinds-at n out next i
+Inv-loop file m good out₀ at n next₀ i₀ out next i = Rowing file m good out₀ at out next i
 
 abbrev μ-loop : tie.MeasureT-loop
-μ-loop file good out₀ at kinds-at n next₀ i₀ out next i = n - i
-
-kinds-at-requires : tie.Need-kinds-at-requires Inv-loop μ-loop
-kinds-at-requires c κs = search needs
+μ-loop file m good out₀ at n next₀ i₀ out next i = n - i
 
 loop-holds : tie.Need-loop-holds Inv-loop μ-loop
 unfolding rowsOf
 loop-holds c = record { few = search needs; long = refl; place = omega arith; put = puts-nothing _ _ }
 
-add-put-line-row : tie.Need-add-put-line-row Inv-loop μ-loop
-add-put-line-row c = search needs
-
-shared-slice-read-put-line-row : tie.Need-shared-slice-read-put-line-row Inv-loop μ-loop
-shared-slice-read-put-line-row c = search needs
+kind-requires : tie.Need-kind-requires Inv-loop μ-loop
+kind-requires c κs = (c .before .before .before .before .before .pre .0, c .before .loop-test .taken)
 
 member-requires : tie.Need-member-requires Inv-loop μ-loop
 member-requires c κs = search needs
 
 put-line-row-requires : tie.Need-put-line-row-requires Inv-loop μ-loop
 put-line-row-requires c κs =
-    let start = c .before .before .before .before .before .before .before .before in
+    let start = c .before .before .before .before .before .before .before in
     let few : start .args .m .lines ≤ 64 = start .pre .0 .few-lines in
     let l = c .before .before .before .before .loop in
     (omega arith, omega (arith, start .pre .1))
@@ -68,15 +63,14 @@ loop-again c =
     let row = c .before .before in
     let told = row .before in
     let l = told .before .before .before .before .loop in
-    let start = told .before .before .before .before .before .before .before .before in
+    let start = told .before .before .before .before .before .before .before in
     let few : start .args .m .lines ≤ 64 = start .pre .0 .few-lines in
-    let kind = getD (now (start .args .file)) (told .before .before .before .before .before .kinds-at .result + l .i) 0 in
-    let size = line-row-length (l .i) kind (told .member .result) (omega arith) in
+    let size = line-row-length (l .i) (told .before .kind .result) (told .member .result) (omega arith) in
     record {
       few = search needs;
       long = puts-length (omega (arith, start .pre .1)) (row .put-line-row .ensures) ∙ l .inv .long;
       place = omega (arith, row .put-line-row .ensures .end);
-      put = rw add-one (puts-then (omega arith) (l .inv .put) (rw (told .member .ensures) at (row .put-line-row .ensures)));
+      put = rw add-one (puts-then (omega arith) (l .inv .put) (rw (told .before .kind .ensures, told .member .ensures) at (row .put-line-row .ensures)));
     }
 
 same-length : tie.Need-same-length Inv-loop μ-loop
@@ -84,14 +78,9 @@ same-length c = search needs
 
 returns : tie.Need-returns Inv-loop μ-loop
 returns c =
-    let start = c .before .before .before .before .before in
-    let l = c .before .loop in
-    let m = start .args .m in
-    let file = now (start .args .file) in
-    let all : l .i ≡ m .lines = omega arith in
-    let place = c .before .before .kinds-at .ensures in
-    let same = rows-same (m .lines) _ _ (λ i h. ap (λ (k : ℕ). lineRow i k (isMember (start .args .good) i)) (ap (λ (a : ℕ). getD file (a + i) 0) place ∙ sym (line-kind (m .lines) (m .levels) file i h))) in
-    rw (sym same) (rw all at (l .inv .put))
+    let start = c .before .before .before .before in
+    let all : c .before .loop .i ≡ start .args .m .lines = omega arith in
+    rw all at (c .before .loop .inv .put)
 
 pub put-line-rows-spec : {M : Type 1} → statement M
 put-line-rows-spec =
@@ -99,10 +88,8 @@ put-line-rows-spec =
     (tie.spec
     Inv-loop
     μ-loop
-    kinds-at-requires
     loop-holds
-    add-put-line-row
-    shared-slice-read-put-line-row
+    kind-requires
     member-requires
     put-line-row-requires
     add-i

@@ -17,6 +17,7 @@ use Rattle.reader.specs.Says.{roomChecks, readNumber, ReadSays}
 use Rattle.model.specs.declared.layout.Model.{Model}
 use Rattle.model.specs.declared.layout.Reading.the-variants as reading
 use Rattle.model.proofs.Sizes.{few-words}
+use Rattle.model.proofs.Places.{header-whole}
 use Rattle.lists.proofs.Front.{rest-whole, part-copied}
 use Rattle.numbers.proofs.Codec.{words-copied}
 use Rattle.model.proofs.Refusals.{refused-by, refused-before}
@@ -27,14 +28,16 @@ use Rattle.reader.proofs.read.Tie as tie
 
 -- the number with which reading refuses, and the checks behind those of the file
 abbrev number : tie.Start → ℕ
-number s = readNumber (now (s .args .file)) (length (now (s .args .signs))) (length (now (s .args .kinds))) (length (now (s .args .words)))
+number s =
+    readNumber (now (s .args .file)) (length (now (s .args .signs))) (length (now (s .args .kinds))) (length (now (s .args .thresholds))) (length (now (s .args .words)))
 
 abbrev rest : tie.Start → List Check
-rest s = roomChecks (now (s .args .file)) (length (now (s .args .signs))) (length (now (s .args .kinds))) (length (now (s .args .words)))
+rest s =
+    roomChecks (now (s .args .file)) (length (now (s .args .signs))) (length (now (s .args .kinds))) (length (now (s .args .thresholds))) (length (now (s .args .words)))
 
 -- where the file is right
 abbrev start₁ : tie.After-known-told → tie.Start
-start₁ c = c .before .before .before .before .before .before .before .before
+start₁ c = c .before .before .before .before .before .before .before .before .before
 
 abbrev file₁ : tie.After-known-told → List ℕ
 file₁ c = now (start₁ c .args .file)
@@ -51,8 +54,9 @@ behind c = after-file (file₁ c) (rest (start₁ c)) (right c .counts .number)
 
 short :
     (c : tie.After-known-told) → firstOf (rest (start₁ c)) ≡ 12
-    → ReadSays (file₁ c) (now (start₁ c .args .signs)) (now (start₁ c .args .kinds)) (now (start₁ c .args .words)) (reading.Refused Room) (now (start₁ c .args .signs)) (now (start₁ c .args .kinds)) (now (start₁ c .args .words))
-short c small = read-refused _ _ _ _ (reading.Refused Room) Room refl (refused-by Room (behind c ∙ small))
+    → ReadSays (file₁ c) (now (start₁ c .args .signs)) (now (start₁ c .args .kinds)) (now (start₁ c .args .thresholds)) (now (start₁ c .args .words)) (reading.Refused Room)
+    (now (start₁ c .args .signs)) (now (start₁ c .args .kinds)) (now (start₁ c .args .thresholds)) (now (start₁ c .args .words))
+short c small = read-refused _ _ _ _ _ (reading.Refused Room) Room refl (refused-by Room (behind c ∙ small))
 
 -- what the tests of the slices found
 signs-enough : (c : tie.Else1) → levelsIn (file₁ (c .before)) ≤ length (now (start₁ (c .before) .args .signs))
@@ -61,30 +65,34 @@ signs-enough c = rw (right (c .before) .counts .levels) at (c .if1 .left)
 kinds-enough : (c : tie.Else2) → linesIn (file₁ (c .before .before)) ≤ length (now (start₁ (c .before .before) .args .kinds))
 kinds-enough c = rw (right (c .before .before) .counts .lines) at (c .if2 .left)
 
+thresholds-enough : (c : tie.Else3) → linesIn (file₁ (c .before .before .before)) ≤ length (now (start₁ (c .before .before .before) .args .thresholds))
+thresholds-enough c = rw (right (c .before .before .before) .counts .lines) at (c .if3 .left)
+
 words-count : (c : tie.After-known-told) → model c .lines * model c .levels ≡ linesIn (file₁ c) * levelsIn (file₁ c)
 words-count c = ap₂ _*_ (right c .counts .lines) (right c .counts .levels)
 
-words-enough : (c : tie.Else3) → linesIn (file₁ (c .before .before .before)) * levelsIn (file₁ (c .before .before .before)) ≤ length (now (start₁ (c .before .before .before) .args .words))
-words-enough c = subst (λ (k : ℕ). k ≤ length (now (start₁ (c .before .before .before) .args .words))) (words-count (c .before .before .before)) (c .if3 .left)
+-- where they are long enough
+abbrev tested : tie.Else4 → tie.After-known-told
+tested c = c .before .before .before .before
 
-accepted : (c : tie.Else3) → number (start₁ (c .before .before .before)) ≡ 0
+words-enough : (c : tie.Else4) → linesIn (file₁ (tested c)) * levelsIn (file₁ (tested c)) ≤ length (now (start₁ (tested c) .args .words))
+words-enough c = subst (λ (k : ℕ). k ≤ length (now (start₁ (tested c) .args .words))) (words-count (tested c)) (c .if4 .left)
+
+accepted : (c : tie.Else4) → number (start₁ (tested c)) ≡ 0
 accepted c =
-    behind (c .before .before .before)
-    ∙ simp (le-ltb _ _ (signs-enough (c .before .before)), le-ltb _ _ (kinds-enough (c .before)), le-ltb _ _ (words-enough c))
+    behind (tested c)
+    ∙ simp (le-ltb _ _ (signs-enough (c .before .before .before)), le-ltb _ _ (kinds-enough (c .before .before)), le-ltb _ _ (thresholds-enough (c .before)), le-ltb _ _ (words-enough c))
 
 -- the sizes, at the offsets
-abbrev known : tie.After-words-at → tie.After-known-told
-known c = c .before .before .before .before .before
+abbrev known : tie.After-words-in → tie.After-known-told
+known c = tested (c .before .before)
 
-words-end : (c : tie.After-words-at) → c .words-at .result ≡ c .before .kinds-at .result + model (known c) .lines
-words-end c = omega (arith, c .before .kinds-at .ensures, c .words-at .ensures)
-
-inside : (c : tie.After-words-at) → c .words-at .result + 8 * (model (known c) .lines * model (known c) .levels) ≤ length (file₁ (known c))
-inside c = omega (arith, c .words-at .ensures, right (known c) .room)
+inside : (c : tie.After-words-in) → c .words-in .result + 8 * (model (known c) .lines * model (known c) .levels) ≤ length (file₁ (known c))
+inside c = omega (arith, c .words-in .ensures, right (known c) .laid-out .whole)
 
 -- the offsets, where the words are to be read
-abbrev offsets : tie.After-slice-known5 → tie.After-words-at
-offsets c = c .before .before .before .before .before .before .before .before .before .before
+abbrev offsets : tie.After-slice-known7 → tie.After-words-in
+offsets c = c .before .before .before .before .before .before .before .before .before .before .before .before
 
 check-requires : tie.Need-check-requires
 check-requires c κs = search needs
@@ -99,10 +107,10 @@ returns : tie.Need-returns
 unfolding readNumber fileNumber
 returns c =
     let at-check = c .before .before in
-    let s = at-check .before .before .before .before .before in
+    let s = at-check .before .before .before .before .before .before in
     let file = now (s .args .file) in
     let is = c .enum-told .given .1 in
-    read-refused _ _ _ _ (at-check .check .result) _ is (refused-before (fileChecks file) (rest s) (refused file (at-check .check .ensures) is))
+    read-refused _ _ _ _ _ (at-check .check .result) _ is (refused-before (fileChecks file) (rest s) (refused file (at-check .check .ensures) is))
 
 returns-2 : tie.Need-returns-2
 returns-2 c = short (c .before) (simp (lt-ltb _ _ (rw (right (c .before) .counts .levels) at (c .if1 .taken))))
@@ -111,20 +119,26 @@ returns-3 : tie.Need-returns-3
 returns-3 c =
     short (c .before .before) (simp (le-ltb _ _ (signs-enough (c .before)), lt-ltb _ _ (rw (right (c .before .before) .counts .lines) at (c .if2 .taken))))
 
-mul-if3 : tie.Need-mul-if3
-mul-if3 c = omega (arith, few-words (right (c .before .before) .limits .0) (right (c .before .before) .limits .1))
-
 returns-4 : tie.Need-returns-4
 returns-4 c =
-    let at-counts = c .before .before .before in
-    let few = subst (λ (k : ℕ). length (now (start₁ at-counts .args .words)) < k) (words-count at-counts) (c .if3 .taken) in
-    short at-counts (simp (le-ltb _ _ (signs-enough (c .before .before)), le-ltb _ _ (kinds-enough (c .before)), lt-ltb _ _ few))
+    short (c .before .before .before)
+    (simp (le-ltb _ _ (signs-enough (c .before .before)), le-ltb _ _ (kinds-enough (c .before)), lt-ltb _ _ (rw (right (c .before .before .before) .counts .lines) at (c .if3 .taken))))
+
+mul-if4 : tie.Need-mul-if4
+mul-if4 c = omega (arith, few-words (right (c .before .before .before) .limits .0) (right (c .before .before .before) .limits .1))
+
+returns-5 : tie.Need-returns-5
+returns-5 c =
+    let at-counts = c .before .before .before .before in
+    let few = subst (λ (k : ℕ). length (now (start₁ at-counts .args .words)) < k) (words-count at-counts) (c .if4 .taken) in
+    short at-counts
+    (simp (le-ltb _ _ (signs-enough (c .before .before .before)), le-ltb _ _ (kinds-enough (c .before .before)), le-ltb _ _ (thresholds-enough (c .before)), lt-ltb _ _ few))
 
 kinds-at-requires : tie.Need-kinds-at-requires
-kinds-at-requires c κs = right (c .before .before .before) .limits .1
+kinds-at-requires c κs = right (c .before .before .before .before) .limits .1
 
-words-at-requires : tie.Need-words-at-requires
-words-at-requires c κs = right (c .before .before .before .before) .limits
+words-in-requires : tie.Need-words-in-requires
+words-in-requires c κs = header-whole (right (c .before .before .before .before .before) .laid-out)
 
 sub-copy : tie.Need-sub-copy
 sub-copy c = search needs
@@ -133,22 +147,16 @@ part-copy-start : tie.Need-part-copy-start
 part-copy-start c = search needs
 
 part-copy-end : tie.Need-part-copy-end
-part-copy-end c = omega (arith, inside c, words-end c)
+part-copy-end c = omega (arith, c .before .kinds-at .ensures, right (known c) .laid-out .laid, right (known c) .laid-out .whole)
 
 copy-requires : tie.Need-copy-requires
 copy-requires c κs = search needs
 
-sub-copy-2 : tie.Need-sub-copy-2
-sub-copy-2 c = search needs
-
-part-copy-start-2 : tie.Need-part-copy-start-2
-part-copy-start-2 c = search needs
-
-part-copy-end-2 : tie.Need-part-copy-end-2
-part-copy-end-2 c = omega (arith, inside (c .before .before .before .before .before))
-
-copy-requires-2 : tie.Need-copy-requires-2
-copy-requires-2 c κs = search needs
+read-lines-requires : tie.Need-read-lines-requires
+read-lines-requires c κs =
+    let at-offsets = c .before .before .before .before .before .before .before in
+    let tests = at-offsets .before .before .before in
+    (right (known at-offsets) .laid-out, (tests .before .if2 .left, tests .if3 .left))
 
 sub-read-words : tie.Need-sub-read-words
 sub-read-words c = omega (arith, inside (offsets c))
@@ -164,10 +172,10 @@ mul-read-words c = search needs
 
 read-words-requires : tie.Need-read-words-requires
 read-words-requires c κs =
-    let at-words = offsets (c .before .before) in
-    let file = file₁ (known at-words) in (
-      rw (rest-whole file (at-words .words-at .result)) (omega (arith, inside at-words, length-drop (at-words .words-at .result) file)),
-      at-words .before .before .if3 .left,
+    let at-offsets = offsets (c .before .before) in
+    let file = file₁ (known at-offsets) in (
+      rw (rest-whole file (at-offsets .words-in .result)) (omega (arith, inside at-offsets, length-drop (at-offsets .words-in .result) file)),
+      at-offsets .before .before .if4 .left,
     )
 
 same-length : tie.Need-same-length
@@ -179,18 +187,21 @@ same-length-2 c = search needs
 same-length-3 : tie.Need-same-length-3
 same-length-3 c = search needs
 
-returns-5 : tie.Need-returns-5
-returns-5 c =
+same-length-4 : tie.Need-same-length-4
+same-length-4 c = search needs
+
+returns-6 : tie.Need-returns-6
+returns-6 c =
     let at-words = c .before .before in
-    let at-kinds = at-words .before .before .before .before .before in
-    let at-signs = at-kinds .before .before .before .before .before in
+    let at-lines = at-words .before .before .before .before .before .before .before in
+    let at-signs = at-lines .before .before .before .before .before in
     let at-offsets = offsets (at-words .before .before .before) in
     let at-counts = known at-offsets in
-    let kinds-at = at-offsets .before .kinds-at .ensures in
-    read-accepted _ _ _ _ _ _ _ (model at-counts) _ (accepted (at-offsets .before .before)) (right at-counts .counts)
-    (part-copied (file₁ at-counts) _ _ 16 16 _ _ refl kinds-at (at-signs .copy .ensures .1))
-    (part-copied (file₁ at-counts) _ _ _ _ _ _ kinds-at (words-end at-offsets) (at-kinds .copy2 .ensures .1))
-    (words-copied (file₁ at-counts) _ _ _ _ _ (at-offsets .words-at .ensures) (at-words .read-words .ensures))
+    read-accepted _ _ _ _ _ _ _ _ _ (model at-counts) _ (accepted (at-offsets .before .before)) (right at-counts .counts)
+    (part-copied (file₁ at-counts) _ _ 16 16 _ _ refl (at-offsets .before .kinds-at .ensures) (at-signs .copy .ensures .1))
+    (at-lines .read-lines .ensures .0)
+    (at-lines .read-lines .ensures .1)
+    (words-copied (file₁ at-counts) _ _ _ _ _ (at-offsets .words-in .ensures) (at-words .read-words .ensures))
 
 pub read-spec : {M : Type 1} → statement M
 read-spec =
@@ -202,18 +213,16 @@ read-spec =
     returns
     returns-2
     returns-3
-    mul-if3
     returns-4
+    mul-if4
+    returns-5
     kinds-at-requires
-    words-at-requires
+    words-in-requires
     sub-copy
     part-copy-start
     part-copy-end
     copy-requires
-    sub-copy-2
-    part-copy-start-2
-    part-copy-end-2
-    copy-requires-2
+    read-lines-requires
     sub-read-words
     part-read-words-start
     part-read-words-end
@@ -222,4 +231,5 @@ read-spec =
     same-length
     same-length-2
     same-length-3
-    returns-5)
+    same-length-4
+    returns-6)

@@ -1,4 +1,4 @@
--- `solver_c::solver_read` meets its contract: the words and the three lists are as the operation left them.
+-- `solver_c::solver_read` meets its contract: the words and the four lists are as the operation left them.
 -- Assumes nothing.
 use mathlib.Core.Path.{ap, _∙_}
 use Rattle.answer_c.specs.Words.{sixWords}
@@ -21,12 +21,15 @@ same-length-2 c = search needs
 same-length-3 : tie.Need-same-length-3
 same-length-3 c = search needs
 
+same-length-4 : tie.Need-same-length-4
+same-length-4 c = search needs
+
 returns : tie.Need-returns
 returns c =
-    let read = c .before .before .before .before .before .before .before .read .ensures in
+    let read = c .before .before .before .before .before .before .before .before .before .read .ensures in
     (c .put-reading .ensures ∙ ap sixWords (read .answer), read .left)
 
 pub solver-read-spec : {M : Type 1} → statement M
 solver-read-spec =
     tie.close
-    (tie.spec read-requires put-reading-requires same-length same-length-2 same-length-3 returns)
+    (tie.spec read-requires put-reading-requires same-length same-length-2 same-length-3 same-length-4 returns)

@@ -1,0 +1,116 @@
+-- `encoder::put_lines` meets its contract: after i lines the slice begins with their two bytes each, and the rest is as it was.
+-- Assumes nothing.
+use mathlib.Core.List.{List, [], _∷_, _++_, append-assoc}
+use mathlib.Core.Path.{_≡_, refl, sym, _∙_, ap, ap₂}
+use Prim.Native.Nat.{ℕ, zero, suc, _+_, _-_, _*_, _≤_, _<_, zero-le}
+use native.Mathlib.Numerals.{add-one}
+use native.Mathlib.Omega.{arith}
+use denote.Ref.{now}
+use borrow.Author.Needs.{needs}
+use lib.ListN.{length, getD, take, drop, length-append, length-set}
+use lib.Seq.{take-length, length-take-le}
+use Rattle.model.specs.File.{lineRecords}
+use Rattle.model.proofs.RoundTrip.{records-length}
+use Rattle.lists.proofs.Front.{front-store}
+use Rattle.encoder.proofs.put_lines.Statement.{statement}
+use Rattle.encoder.proofs.put_lines.Tie as tie
+
+-- the bytes of one more line
+records-more : (i : ℕ) (kinds thresholds : List ℕ) → i < length kinds
+    → lineRecords (take (suc i) kinds) thresholds ≡ lineRecords (take i kinds) thresholds ++ (getD kinds i 0 ∷ getD thresholds i 0 ∷ [])
+unfolding lineRecords
+records-more i [] ts h = absurd (omega arith)
+records-more zero (k ∷ ks) ts h = refl
+records-more (suc i) (k ∷ ks) [] h = ap (λ (s : List ℕ). k ∷ 0 ∷ s) (records-more i ks [] (omega arith))
+records-more (suc i) (k ∷ ks) (t ∷ ts) h = ap (λ (s : List ℕ). k ∷ t ∷ s) (records-more i ks ts (omega arith))
+
+abbrev Inv-loop : tie.InvT-loop
+Inv-loop s₀ kinds thresholds i₀ s i = (i ≤ length kinds) × (s ≡ lineRecords (take i kinds) thresholds ++ drop (2 * i) s₀) × (length s ≡ length s₀)
+
+abbrev μ-loop : tie.MeasureT-loop
+μ-loop s₀ kinds thresholds i₀ s i = length kinds - i
+
+loop-holds : tie.Need-loop-holds Inv-loop μ-loop
+unfolding lineRecords
+loop-holds c = (zero-le, refl, refl)
+
+shared-slice-read-s : tie.Need-shared-slice-read-s Inv-loop μ-loop
+shared-slice-read-s c = search needs
+
+mul-s : tie.Need-mul-s Inv-loop μ-loop
+mul-s c = search needs
+
+slice-write-s : tie.Need-slice-write-s Inv-loop μ-loop
+slice-write-s c = search needs
+
+shared-slice-read-s-2 : tie.Need-shared-slice-read-s-2 Inv-loop μ-loop
+shared-slice-read-s-2 c = search needs
+
+mul-s-2 : tie.Need-mul-s-2 Inv-loop μ-loop
+mul-s-2 c = search needs
+
+add-s : tie.Need-add-s Inv-loop μ-loop
+add-s c = search needs
+
+slice-write-s-2 : tie.Need-slice-write-s-2 Inv-loop μ-loop
+slice-write-s-2 c = simp length-set (omega arith)
+
+add-i : tie.Need-add-i Inv-loop μ-loop
+add-i c = search needs
+
+loop-less : tie.Need-loop-less Inv-loop μ-loop
+loop-less c = search needs
+
+loop-again : tie.Need-loop-again Inv-loop μ-loop
+loop-again c =
+    let at-loop-test = c .before .before in
+    let at-loop = at-loop-test .before in
+    let start = at-loop .before in
+    let s = now (start .args .s) in
+    let kinds = now (start .args .kinds) in
+    let thresholds = now (start .args .thresholds) in
+    let i = at-loop .loop .i in
+    let inv = at-loop .loop .inv in
+    let front = lineRecords (take i kinds) thresholds in
+    let kind = getD kinds i 0 in
+    let threshold = getD thresholds i 0 in
+    let written : length front ≡ 2 * i = omega (arith, records-length (take i kinds) thresholds, length-take-le i kinds (inv .0)) in
+    let more : lineRecords (take (i + 1) kinds) thresholds ≡ front ++ (kind ∷ threshold ∷ []) = rw add-one (records-more i kinds thresholds (at-loop-test .loop-test .taken)) in
+    let next : 2 * i + 1 + 1 ≡ 2 * (i + 1) = omega arith in (
+      omega arith,
+      front-store (front ++ (kind ∷ [])) s _ (2 * i + 1) threshold (omega (arith, length-append front (kind ∷ []))) (omega arith)
+          (front-store front s (at-loop .loop .s) (2 * i) kind written (omega arith) (inv .1))
+          ∙ ap₂ (λ (bs : List ℕ) (n : ℕ). bs ++ drop n s) (append-assoc front (kind ∷ []) (threshold ∷ []) ∙ sym more) next,
+      simp length-set (inv .2),
+    )
+
+same-length : tie.Need-same-length Inv-loop μ-loop
+same-length c = search needs
+
+returns : tie.Need-returns Inv-loop μ-loop
+returns c =
+    let start = c .before .before in
+    let kinds = now (start .args .kinds) in
+    let all : c .before .loop .i ≡ length kinds = omega arith in
+    c .before .loop .inv .1
+    ∙ ap₂ (λ (ks : List ℕ) (n : ℕ). lineRecords ks (now (start .args .thresholds)) ++ drop (2 * n) (now (start .args .s))) (ap (λ (n : ℕ). take n kinds) all ∙ take-length kinds) all
+
+pub put-lines-spec : {M : Type 1} → statement M
+put-lines-spec =
+    tie.close
+    (tie.spec
+    Inv-loop
+    μ-loop
+    loop-holds
+    shared-slice-read-s
+    mul-s
+    slice-write-s
+    shared-slice-read-s-2
+    mul-s-2
+    add-s
+    slice-write-s-2
+    add-i
+    loop-less
+    loop-again
+    same-length
+    returns)

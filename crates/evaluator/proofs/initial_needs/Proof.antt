@@ -1,0 +1,84 @@
+-- `evaluator::initial_needs` meets its contract. The loop's invariant: the lines passed have what they need. The measure is the lines left.
+-- Assumes nothing.
+use mathlib.Core.List.{List}
+use mathlib.Core.Path.{_≡_, refl, _∙_}
+use Prim.Native.Nat.{ℕ, _-_, _≤_, _<_}
+use native.Mathlib.Decide.{decLt}
+use native.Mathlib.Omega.{arith}
+use denote.Ref.{now}
+use borrow.Author.Needs.{needs}
+use lib.ListN.{length, getD, length-set}
+use lib.Seq.{getD-set-same, getD-set-other}
+use Rattle.model.specs.Held.{systemIn}
+use Rattle.model.specs.declared.layout.Model.{Model}
+use Rattle.evaluator.specs.ByLevels.{lineNeeds}
+use Rattle.evaluator.proofs.DecidedLines.{carried-none}
+use Rattle.evaluator.proofs.initial_needs.Statement.{statement}
+use Rattle.evaluator.proofs.initial_needs.Tie as tie
+
+record Filled (file : List ℕ) (m : Model) (n : ℕ) (needs : List ℕ) (i : ℕ) : Type 0 where
+  few : i ≤ n
+  long : length needs ≡ 64
+  passed : (j : ℕ) → j < i → getD needs j 0 ≡ lineNeeds (systemIn file m) j
+
+abbrev Inv-loop : tie.InvT-loop
+Inv-loop file m n needs₀ i₀ needs i = Filled file m n needs i
+
+abbrev μ-loop : tie.MeasureT-loop
+μ-loop file m n needs₀ i₀ needs i = n - i
+
+loop-holds : tie.Need-loop-holds Inv-loop μ-loop
+loop-holds c = record { few = omega arith; long = refl; passed = λ j l. absurd (omega arith) }
+
+line-need-requires : tie.Need-line-need-requires Inv-loop μ-loop
+line-need-requires c κs = (c .before .before .before .pre, c .loop-test .taken)
+
+array-write-needs : tie.Need-array-write-needs Inv-loop μ-loop
+array-write-needs c =
+    let few = c .before .before .before .before .pre .laid-out .few-lines in
+    let more = c .before .loop-test .taken in
+    omega arith
+
+add-i : tie.Need-add-i Inv-loop μ-loop
+add-i c = search needs
+
+loop-less : tie.Need-loop-less Inv-loop μ-loop
+loop-less c = search needs
+
+loop-again : tie.Need-loop-again Inv-loop μ-loop
+loop-again c =
+    let start = c .before .before .before .before in
+    let l = c .before .before .loop in
+    let few = start .pre .laid-out .few-lines in
+    let more = c .before .loop-test .taken in
+    record {
+      few = omega arith;
+      long = length-set (l .needs) (l .i) (c .line-need .result) ∙ l .inv .long;
+      passed = λ j h.
+          elim (decLt j (l .i)) [
+            | yes before ↦ getD-set-other (l .needs) (l .i) j (c .line-need .result) 0 (λ (e : j ≡ l .i). omega arith) ∙ l .inv .passed j before
+            | no behind ↦
+                let same : j ≡ l .i = omega arith in
+                rw same (getD-set-same (l .needs) (l .i) (c .line-need .result) 0 (omega (arith, l .inv .long)) ∙ c .line-need .ensures)
+          ];
+    }
+
+returns : tie.Need-returns Inv-loop μ-loop
+returns c a b =
+    let z = c .before .before .before .args in
+    let all : c .before .loop .i ≡ z .m .lines = omega (arith, c .before .loop .inv .few) in
+    carried-none (systemIn (now (z .file)) (z .m)) (z .m .levels) (c .before .loop .needs) (λ i l. c .before .loop .inv .passed i (omega arith)) a b
+
+pub initial-needs-spec : {M : Type 1} → statement M
+initial-needs-spec =
+    tie.close
+    (tie.spec
+    Inv-loop
+    μ-loop
+    loop-holds
+    line-need-requires
+    array-write-needs
+    add-i
+    loop-less
+    loop-again
+    returns)
