@@ -1,4 +1,5 @@
 // Checking a file: document 01's refusals 1 to 7, and 14 (request W4). Definitions: specs/.
+ghost use mathlib.Core.Bool.{false};
 ghost use mathlib.Core.Path.{_≡_};
 ghost use Prim.Native.Nat.{_+_, _*_, _≤_, _<_};
 ghost use lib.Dec.{ltb};
@@ -59,19 +60,27 @@ fn line_misfits(file: &[u8], m: Model, i: usize) -> bool
     misfits(kind, threshold(file, m, i), count)
 }
 
-// Whether a kind is over the highest of the file's layout, and whether a threshold does not fit its line.
+// Whether a kind is over the highest of the file's layout and, where none is, whether a threshold does not fit its line. An old file has no thresholds, and its
+// kinds stand side by side.
 fn line_faults(file: &[u8], m: Model) -> LineFaults
     requires { ⌜ LaidOut (now file) m ⌝ }
     ensures kinds { λ r. ⌜ r .kind ≡ some (ltb (highestKind (isOld (m .lines) (m .levels) (now (file .entry))))) (systemIn (now (file .entry)) m .kinds) ⌝ }
-    ensures thresholds { λ r. ⌜ r .threshold ≡ someBelow (m .lines) (thresholdMisfits (systemIn (now (file .entry)) m)) ⌝ }
+    ensures thresholds { λ r. ⌜ (r .kind ≡ false → r .threshold ≡ someBelow (m .lines) (thresholdMisfits (systemIn (now (file .entry)) m))) ⌝ }
 {
     let n = m.lines;
-    let highest: u8 = if is_old(file, m) { 1 } else { 2 };
+    if is_old(file, m) {
+        let first = m.kinds_at();
+        let last = m.old_words_at();
+        return LineFaults {
+            kind: one_over(&file[first..last], 1),
+            threshold: false,
+        };
+    }
     let mut over = false;
     let mut misfit = false;
     let mut i = 0;
     while i < n {
-        over = over || highest < kind(file, m, i);
+        over = over || 2 < kind(file, m, i);
         misfit = misfit || line_misfits(file, m, i);
         i += 1;
     }

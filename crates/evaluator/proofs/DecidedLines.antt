@@ -21,6 +21,7 @@ use Rattle.evaluator.specs.ByLevels.{Decided, Needs, Carried, Lowered, i
 use Rattle.evaluator.specs.declared.Pending.{Pending}
 use Rattle.system.proofs.LineSets.{member-set}
 use Rattle.system.proofs.Monotone.{set-below}
+use Rattle.evaluator.proofs.Conjunction.{and-true}
 use Rattle.evaluator.proofs.Needs.{left-out, decides, changed}
 use Rattle.evaluator.proofs.OuterLevels.{outer-none, outer-all, open-none, needs-none, needs-more, next-set}
 
@@ -120,11 +121,7 @@ module _ (s : System) (votes : VotesNeed s) (k x a b : ℕ) (w : Pending) (needs
   module _ (ys : List ℕ) (carried : Carried s (suc k) ys a b w needs) (i : ℕ) (p : isMember b i ≡ true) (q : isMember a i ≡ false) where
     -- a line that a step can change is asked where it is open
     same-open : isMember asked i ≡ isMember (openSet s (suc k) ys) i
-    same-open = asked-is i ∙ rw (p, q, keep (isMember (w .undecided) i)) (carried .0 .still i p q)
-      where
-        keep : (u : Bool) → (u && true) ≡ u
-        keep true = refl
-        keep false = refl
+    same-open = asked-is i ∙ rw (p, q, and-true (isMember (w .undecided) i)) (carried .0 .still i p q)
 
     line-next : (isMember (outerSet s k (x ∷ ys)) i ≡ changed (isMember (w .set) i) (isMember changes i)) × (isMember (openSet s k (x ∷ ys)) i ≡ changed (isMember asked i) (isMember changes i))
     line-next =

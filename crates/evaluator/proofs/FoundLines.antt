@@ -6,11 +6,12 @@ use Prim.Native.Nat.{ℕ, _-_, _≤_}
 use native.Mathlib.Omega.{arith}
 use native.Mathlib.Nat.{le-trans}
 use borrow.Author.Tests.{eqb-true, eqb-false, eq-eqb}
-use lib.Bits.{bitXor, and-le-l}
+use lib.Bits.{bitXor, and-le-l, or-zero-r}
 use lib.Dec.{eqb}
 use Rattle.sets.specs.Set.{isMember, union, intersection}
 use Rattle.sets.proofs.Order.{digit}
 use Rattle.sets.proofs.Membership.{Lowest, member-join, member-differ, member-empty}
+use Rattle.evaluator.proofs.Conjunction.{and-false}
 
 -- of some lines those found so far, the lines in `rest` being left
 module _ (p : ℕ → Bool) (lines : ℕ) where
@@ -59,11 +60,7 @@ module _ (p : ℕ → Bool) (lines : ℕ) where
         at i false q = let ne = eqb-false i t q in same i ne ∙ rw (kept i ne) (f .is i)
 
     unfound : isMember found t ≡ false
-    unfound = f .is t ∙ rw (eq-eqb (digit rest t) 1 (l .is-in)) (never (isMember lines t))
-      where
-        never : (s : Bool) → (s && false) ≡ false
-        never true = refl
-        never false = refl
+    unfound = f .is t ∙ rw (eq-eqb (digit rest t) 1 (l .is-in)) (and-false (isMember lines t))
 
     -- the line itself is what the rest has and the others do not
     pub found-more : p t ≡ true → FoundSoFar next (union found (bitXor rest next))
@@ -78,3 +75,8 @@ module _ (p : ℕ → Bool) (lines : ℕ) where
 
     pub found-same : p t ≡ false → FoundSoFar next found
     found-same e = one-more found (unfound ∙ sym e) (λ i ne. refl)
+
+    -- whether it is or not: `one` is the line itself if it is found, and else no line
+    pub found-one : (b : Bool) (one : ℕ) → p t ≡ b → one ≡ cond b (bitXor rest next) 0 → FoundSoFar next (union found one)
+    found-one true one e is = rw is (found-more e)
+    found-one false one e is = rw (is, or-zero-r found) (found-same e)

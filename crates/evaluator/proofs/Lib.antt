@@ -1,3 +1,4 @@
+pub mod Conjunction
 pub mod FoundLines
 pub mod LookedLines
 pub mod Needs

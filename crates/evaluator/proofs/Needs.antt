@@ -14,6 +14,7 @@ use Rattle.sets.specs.Set.{isMember, full}
 use Rattle.sets.proofs.Membership.{member-differ, member-full}
 use Rattle.system.specs.Query.{any, all, countSet, valueOf, selected}
 use Rattle.evaluator.specs.ByLevels.{needed}
+use Rattle.evaluator.proofs.Conjunction.{and-false}
 
 -- two Booleans that differ: a value that changes, or does not
 abbrev pub changed : Bool → Bool → Bool
@@ -147,11 +148,7 @@ meets-needed need c h = go (leb need c) refl
   where
     go : (t : Bool) → leb need c ≡ t → t ≡ (not (eqb c 0) && t)
     go true e = rw (ne-eqb c 0 (λ z. omega (arith, leb-true need c e)))
-    go false e = sym (never (not (eqb c 0)))
-      where
-        never : (s : Bool) → (s && false) ≡ false
-        never true = refl
-        never false = refl
+    go false e = sym (and-false (not (eqb c 0)))
 
 -- `need` is what the line still needs, if it is open and not set
 pub one-level : (kind t : ℕ) → VoteNeeds kind t → (outer : List Bool) (w x need : ℕ)

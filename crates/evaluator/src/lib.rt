@@ -5,13 +5,14 @@ ghost use mathlib.Core.Path.{_≡_};
 ghost use mathlib.Core.Bool.{_&&_};
 ghost use mathlib.Core.List.{List, [], _∷_};
 ghost use Prim.Native.Nat.{ℕ, suc, _+_, _*_, _<_, _^_};
-ghost use lib.Dec.{leb};
+ghost use lib.Dec.{ltb};
 ghost use Rattle.sets.specs.Set.{isMember, members, boundedStep};
 ghost use Rattle.system.specs.Query.{query};
 ghost use Rattle.model.specs.File.{wordsIn};
 ghost use Rattle.model.specs.Held.{Held, systemIn};
 ghost use Rattle.evaluator.specs.ByLevels.{Decided, Needs, Carried, Lowered, Next, initialSet, selects, isMet, isLowered, lineNeeds};
 use model::Model;
+use model::is_old;
 use model::kind;
 use model::threshold;
 use model::words_in;
@@ -86,18 +87,15 @@ fn selecting(file: &[u8], m: Model, k: usize, lines: u64, x: u64) -> u64
     found
 }
 
-// Whether some operands that are set are as many as a line needs. One is enough for most lines, so that few are counted.
-fn is_enough(need: u8, operands: u64) -> bool
-    requires { ⌜ (operands ≡ 0 → ⊥) ⌝ }
-    ensures { λ r. ⌜ r ≡ leb need (members operands) ⌝ }
+// Whether some operands are fewer than a line needs.
+fn is_short(need: u8, operands: u64) -> bool
+    ensures { λ r. ⌜ r ≡ ltb (members operands) need ⌝ }
 {
-    if need <= 1 {
-        return true;
-    }
-    need as u32 <= sets::member_count(operands)
+    sets::member_count(operands) < need as u32
 }
 
-// Of some lines that are not set, those whose operands at level k + 1 in x are all that they need, and those for which they are a part of it.
+// Of some lines that are not set, those whose operands at level k + 1 in x are all that they need, and those for which they are a part of it. For most lines one
+// is enough, so that few are counted.
 fn meeting(file: &[u8], m: Model, k: usize, lines: u64, x: u64, needs: &[u8; 64]) -> Hits
     requires { ⌜ Held (now file) m ⌝ }
     requires { ⌜ (k < m .levels) × (lines < 2 ^ m .lines) ⌝ }
@@ -107,22 +105,26 @@ fn meeting(file: &[u8], m: Model, k: usize, lines: u64, x: u64, needs: &[u8; 64]
     let at = level_words(file, m, k);
     let line = 8 * m.levels;
     let mut rest = lines;
-    let mut met: u64 = 0;
+    let mut hit: u64 = 0;
     let mut lowered: u64 = 0;
     while rest != 0 {
         let i = u64::trailing_zeros(rest) as usize;
         let others = rest & (rest - 1);
         let operands = u64_at(file, at + line * i) & x;
-        if operands != 0 {
-            if is_enough(needs[i], operands) {
-                met = met | (rest ^ others);
-            } else {
-                lowered = lowered | (rest ^ others);
+        let one = if operands != 0 { rest ^ others } else { 0 };
+        hit = hit | one;
+        let need = needs[i];
+        if 1 < need {
+            if is_short(need, operands) {
+                lowered = lowered | one;
             }
         }
         rest = others;
     }
-    Hits { met, lowered }
+    Hits {
+        met: hit ^ lowered,
+        lowered,
+    }
 }
 
 // With no argument known, every line is undecided.
@@ -148,13 +150,16 @@ fn line_need(file: &[u8], m: Model, i: usize) -> u8
     threshold(file, m, i)
 }
 
-// What the lines need while no argument is known.
+// What the lines need while no argument is known. An old file has no votes.
 pub fn initial_needs(file: &[u8], m: Model) -> [u8; 64]
     requires { ⌜ Held (now file) m ⌝ }
     ensures { λ r. ⌜ ((a b : ℕ) → Needs (systemIn (now (file .entry)) m) (m .levels) [] a b r) ⌝ }
 {
     let n = m.lines;
     let mut needs = [1u8; 64];
+    if is_old(file, m) {
+        return needs;
+    }
     let mut i = 0;
     while i < n {
         needs[i] = line_need(file, m, i);

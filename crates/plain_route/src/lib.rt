@@ -61,7 +61,7 @@ fn innermost_rounds(
     Outcome::Spent
 }
 
-// The plain rounds of the levels k, .., 1, at arguments of the levels above of which w is what they decide.
+// The plain rounds of the levels k, .., 1; w and needs are what the arguments of the levels above come to.
 pub fn plain_level(
     file: &[u8],
     m: Model,
@@ -97,8 +97,9 @@ pub fn plain_level(
         let Outcome::Settled { set, left: unused } = round else {
             return Outcome::Spent;
         };
+        // Made anew, and not the round handed on: a copy of the enum has bytes between its fields, which costs more than the round.
         if set == x {
-            return round;
+            return Outcome::Settled { set, left: unused };
         }
         x = set;
         rest = unused;

@@ -126,7 +126,7 @@ searched c =
       ← c .before .before .line-faults .ensures .0,
       c .before .if2 .left,
       ← c .stray-selection .ensures,
-      ← c .before .before .line-faults .ensures .1,
+      ← c .before .before .line-faults .ensures .1 (c .before .if2 .left),
     )
 
 returns-4 : tie.Need-returns-4

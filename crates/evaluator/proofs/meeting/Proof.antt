@@ -2,40 +2,47 @@
 -- a part of it. The measure is the set of the lines left.
 -- Assumes nothing.
 use denote.Ref.{now}
-use mathlib.Core.Bool.{Bool, true, false, not, _&&_}
+use mathlib.Core.Bool.{Bool, true, false, cond, not, _&&_}
 use mathlib.Core.List.{List}
-use mathlib.Core.Path.{_≡_, refl, sym, _∙_, ap, ap₂}
-use Prim.Native.Nat.{ℕ, _+_, _*_, _<_}
+use mathlib.Core.Path.{_≡_, refl, sym, _∙_, ap}
+use mathlib.Core.Logic.{⊎-elim}
+use Prim.Native.Nat.{ℕ, _+_, _-_, _*_, _≤_, _<_}
 use native.Mathlib.Omega.{arith}
 use borrow.Author.Needs.{needs}
-use borrow.Author.Tests.{eq-eqb, ne-eqb}
+use borrow.Author.Tests.{eq-eqb, ne-eqb, eqb-true, eqb-false, le-leb, lt-leb, ltb-true, ltb-false, le-ltb}
+use lib.Bits.{bitXor}
 use lib.Count.{trailingZeros}
-use lib.Dec.{eqb, leb}
+use lib.Dec.{eqb, leb, ltb}
 use lib.ListN.{length, getD}
-use Rattle.sets.specs.Set.{intersection, members}
+use Rattle.sets.specs.Set.{isMember, union, intersection, members}
 use Rattle.sets.proofs.Members.{members-empty, members-some}
+use Rattle.sets.proofs.Membership.{member-differ}
 use Rattle.system.specs.Query.{countSet}
-use Rattle.evaluator.proofs.FoundLines.{FoundSoFar, found-none, found-all, found-more, found-same}
+use Rattle.evaluator.proofs.Conjunction.{and-true, and-false}
+use Rattle.evaluator.proofs.FoundLines.{FoundSoFar, found-none, found-all, found-same, found-one}
 use Rattle.evaluator.proofs.LookedLines.{masked, count-masked, Looked, others-fewer, looked, in-lines}
 use Rattle.evaluator.proofs.meeting.Statement.{statement}
 use Rattle.evaluator.proofs.meeting.Tie as tie
 
--- whether some bits are all, or a part, of what is needed
+-- whether some of the bits are set, and whether these are all that is needed, or a part of it
+abbrev some-of : List Bool → Bool
+some-of bits = not (eqb (countSet bits) 0)
+
 abbrev all-of : ℕ → List Bool → Bool
-all-of need bits = not (eqb (countSet bits) 0) && leb need (countSet bits)
+all-of need bits = some-of bits && leb need (countSet bits)
 
 abbrev part-of : ℕ → List Bool → Bool
-part-of need bits = not (eqb (countSet bits) 0) && not (leb need (countSet bits))
+part-of need bits = some-of bits && not (leb need (countSet bits))
 
-record Told (file needs : List ℕ) (at line x lines rest met lowered : ℕ) : Type 0 where
-  all : FoundSoFar (λ i. all-of (getD needs i 0) (masked file at line x i)) lines rest met
+record Told (file needs : List ℕ) (at line x lines rest hit lowered : ℕ) : Type 0 where
+  some : FoundSoFar (λ i. some-of (masked file at line x i)) lines rest hit
   part : FoundSoFar (λ i. part-of (getD needs i 0) (masked file at line x i)) lines rest lowered
 
 abbrev Inv-loop : tie.InvT-loop
-Inv-loop file k lines x needs at line rest₀ met₀ lowered₀ rest met lowered = Told file needs at line x lines rest met lowered
+Inv-loop file k lines x needs at line rest₀ hit₀ lowered₀ rest hit lowered = Told file needs at line x lines rest hit lowered
 
 abbrev μ-loop : tie.MeasureT-loop
-μ-loop file k lines x needs at line rest₀ met₀ lowered₀ rest met lowered = rest
+μ-loop file k lines x needs at line rest₀ hit₀ lowered₀ rest hit lowered = rest
 
 level-words-requires : tie.Need-level-words-requires Inv-loop μ-loop
 level-words-requires c κs = (c .before .pre .0, c .before .pre .1 .0)
@@ -44,7 +51,7 @@ mul-line : tie.Need-mul-line Inv-loop μ-loop
 mul-line c = search needs
 
 loop-holds : tie.Need-loop-holds Inv-loop μ-loop
-loop-holds c = record { all = found-none _ _; part = found-none _ _ }
+loop-holds c = record { some = found-none _ _; part = found-none _ _ }
 
 -- the line that is looked at
 at-line : (c : tie.In-loop Inv-loop μ-loop) →
@@ -53,7 +60,7 @@ at-line : (c : tie.In-loop Inv-loop μ-loop) →
     Looked (length (now (z .file))) (z .m .lines) (c .before .before .before .level-words .result) (8 * z .m .levels) rest (trailingZeros 64 rest)
 at-line c =
     let start = c .before .before .before .before .before in
-    looked (start .pre .0 .laid-out) (start .pre .1 .0) (c .before .before .before .level-words .ensures) refl (start .pre .1 .1) (c .before .loop .rest) (c .before .loop .inv .all .few) (c .loop-test .taken)
+    looked (start .pre .0 .laid-out) (start .pre .1 .0) (c .before .before .before .level-words .ensures) refl (start .pre .1 .1) (c .before .loop .rest) (c .before .loop .inv .some .few) (c .loop-test .taken)
 
 cast-i : tie.Need-cast-i Inv-loop μ-loop
 cast-i c = omega (arith, at-line c .low .low)
@@ -89,59 +96,93 @@ counted c =
     count-masked (now (z .file)) (c .before .before .before .before .level-words .result) (8 * z .m .levels) (z .x)
     (trailingZeros 64 (c .before .before .loop .rest)) (c .u64-at .result) (c .u64-at .ensures) (omega arith) (omega arith)
 
--- what the tests say of some bits of which as many are set as o has members
-tells : (need : ℕ) (bits : List Bool) (o : ℕ) (t : Bool) → countSet bits ≡ members o → (o ≡ 0 → ⊥) → leb need (members o) ≡ t → (all-of need bits ≡ t) × (part-of need bits ≡ not t)
-tells need bits o t e ne enough =
-    let some : eqb (members o) 0 ≡ false = ne-eqb (members o) 0 (λ (z : members o ≡ 0). omega (arith, members-some o ne)) in
-    (rw (e, some) enough, rw (e, some) (ap not enough))
+-- as many are set as the operands have members, so some are where there is an operand
+some-are : (c : tie.After-u64-at Inv-loop μ-loop) → some-of (bits c) ≡ not (eqb (found c) 0)
+some-are c = ap (λ (n : ℕ). not (eqb n 0)) (counted c) ∙ ap not (go (eqb (found c) 0) refl)
+  where
+    go : (t : Bool) → eqb (found c) 0 ≡ t → eqb (members (found c)) 0 ≡ t
+    go true e = eq-eqb (members (found c)) 0 (ap members (eqb-true (found c) 0 e) ∙ members-empty)
+    go false e = ne-eqb (members (found c)) 0 (λ (z : members (found c) ≡ 0). omega (arith, members-some (found c) (eqb-false (found c) 0 e)))
 
-tells-none : (need : ℕ) (bits : List Bool) (o : ℕ) → countSet bits ≡ members o → o ≡ 0 → (all-of need bits ≡ false) × (part-of need bits ≡ false)
-tells-none need bits o e none =
-    let no : eqb (members o) 0 ≡ true = eq-eqb (members o) 0 (ap members none ∙ members-empty) in
-    (rw (e, no), rw (e, no))
+-- they are a part of what is needed if they are fewer
+part-is : (c : tie.After-u64-at Inv-loop μ-loop) (t : Bool) → ltb (members (found c)) (need c) ≡ t → part-of (need c) (bits c) ≡ (not (eqb (found c) 0) && t)
+part-is c t e =
+    ap (λ (b : Bool). b && not (leb (need c) (countSet (bits c)))) (some-are c) ∙ ap (λ (n : ℕ). not (eqb (found c) 0) && not (leb (need c) n)) (counted c)
+    ∙ ap (λ (b : Bool). not (eqb (found c) 0) && b) (fewer t e)
+  where
+    fewer : (t : Bool) → ltb (members (found c)) (need c) ≡ t → not (leb (need c) (members (found c))) ≡ t
+    fewer true e = ap not (lt-leb (need c) (members (found c)) (ltb-true (members (found c)) (need c) e))
+    fewer false e = ap not (le-leb (need c) (members (found c)) (ltb-false (members (found c)) (need c) e))
 
-element-copy-out-is-enough : tie.Need-element-copy-out-is-enough Inv-loop μ-loop
-element-copy-out-is-enough c = at-line (c .before .before) .low .low
+-- the line itself where there is an operand, and else no line
+one-is : (c : tie.Joined1 Inv-loop μ-loop) → let rest = c .before .before .before .loop .rest in c .if1 .one ≡ cond (not (eqb (found (c .before)) 0)) (bitXor rest (intersection rest (rest - 1))) 0
+one-is c =
+    ⊎-elim (λ w. w .1 ∙ rw (ne-eqb (found (c .before)) 0 (w .0 .taken))) (λ w. w .1 ∙ rw (eq-eqb (found (c .before)) 0 (w .0 .left))) (c .if1 .came)
 
-is-enough-requires : tie.Need-is-enough-requires Inv-loop μ-loop
-is-enough-requires c κs = c .before .if1 .taken
+element-copy-out-need : tie.Need-element-copy-out-need Inv-loop μ-loop
+element-copy-out-need c = at-line (c .before .before .before) .low .low
 
--- where some operands are set: whether they are enough
-told : (c : tie.After-is-enough Inv-loop μ-loop) →
-    let word = c .before .before .before in
-    (all-of (need word) (bits word) ≡ c .is-enough .result) × (part-of (need word) (bits word) ≡ not (c .is-enough .result))
-told c = let word = c .before .before .before in tells (need word) (bits word) (found word) (c .is-enough .result) (counted word) (c .before .before .if1 .taken) (sym (c .is-enough .ensures))
+is-short-requires : tie.Need-is-short-requires Inv-loop μ-loop
+is-short-requires c κs = search needs
+
+-- the lines that have operands, with the line that is looked at
+hit-again : (c : tie.Joined1 Inv-loop μ-loop) →
+    let z = c .before .before .before .before .before .before .before .args in
+    let rest = c .before .before .before .loop .rest in
+    FoundSoFar (λ i. some-of (masked (now (z .file)) (c .before .before .before .before .before .level-words .result) (8 * z .m .levels) (z .x) i)) (z .lines) (intersection rest (rest - 1)) (union (c .before .before .before .loop .hit) (c .if1 .one))
+hit-again c =
+    found-one _ _ (at-line (c .before .before) .low) (c .before .before .before .loop .inv .some) (not (eqb (found (c .before)) 0)) (c .if1 .one) (some-are (c .before)) (one-is c)
 
 loop-less : tie.Need-loop-less Inv-loop μ-loop
-loop-less c = others-fewer _ (c .before .before .before .before .before .loop-test .taken)
+loop-less c = others-fewer _ (c .before .before .before .before .before .before .before .loop-test .taken)
 
 loop-again : tie.Need-loop-again Inv-loop μ-loop
 loop-again c =
-    let in-loop = c .before .before .before .before .before in
-    let so-far = in-loop .before .loop .inv in
-    let low = at-line in-loop .low in
-    record { all = found-more _ _ low (so-far .all) (told (c .before) .0 ∙ c .if2 .taken); part = found-same _ _ low (so-far .part) (told (c .before) .1 ∙ ap not (c .if2 .taken)) }
+    let joined = c .before .before .before .before .before in
+    let in-loop = joined .before .before in
+    record {
+      some = hit-again joined;
+      part = found-one _ _ (at-line in-loop .low) (in-loop .before .loop .inv .part) (not (eqb (found (joined .before)) 0)) (joined .if1 .one)
+          (part-is (joined .before) true (sym (c .before .is-short .ensures) ∙ c .if3 .taken) ∙ and-true (not (eqb (found (joined .before)) 0)))
+          (one-is joined);
+    }
 
 loop-less-2 : tie.Need-loop-less-2 Inv-loop μ-loop
-loop-less-2 c = others-fewer _ (c .before .before .before .before .before .loop-test .taken)
+loop-less-2 c = others-fewer _ (c .before .before .before .before .before .before .before .loop-test .taken)
 
 loop-again-2 : tie.Need-loop-again-2 Inv-loop μ-loop
 loop-again-2 c =
-    let in-loop = c .before .before .before .before .before in
-    let so-far = in-loop .before .loop .inv in
-    let low = at-line in-loop .low in
-    record { all = found-same _ _ low (so-far .all) (told (c .before) .0 ∙ c .if2 .left); part = found-more _ _ low (so-far .part) (told (c .before) .1 ∙ ap not (c .if2 .left)) }
+    let joined = c .before .before .before .before .before in
+    let in-loop = joined .before .before in
+    record {
+      some = hit-again joined;
+      part = found-same _ _ (at-line in-loop .low) (in-loop .before .loop .inv .part)
+          (part-is (joined .before) false (sym (c .before .is-short .ensures) ∙ c .if3 .left) ∙ and-false (not (eqb (found (joined .before)) 0)));
+    }
 
 loop-less-3 : tie.Need-loop-less-3 Inv-loop μ-loop
-loop-less-3 c = others-fewer _ (c .before .before .loop-test .taken)
+loop-less-3 c = others-fewer _ (c .before .before .before .before .before .loop-test .taken)
 
 loop-again-3 : tie.Need-loop-again-3 Inv-loop μ-loop
 loop-again-3 c =
-    let in-loop = c .before .before in
-    let so-far = in-loop .before .loop .inv in
-    let low = at-line in-loop .low in
-    let none = tells-none (need (c .before)) (bits (c .before)) (found (c .before)) (counted (c .before)) (c .if1 .left) in
-    record { all = found-same _ _ low (so-far .all) (none .0); part = found-same _ _ low (so-far .part) (none .1) }
+    let joined = c .before .before .before in
+    let in-loop = joined .before .before in
+    record {
+      some = hit-again joined;
+      part = found-same _ _ (at-line in-loop .low) (in-loop .before .loop .inv .part) (go (joined .before) (omega (arith, c .if2 .left)) (eqb (found (joined .before)) 0) refl);
+    }
+  where
+    -- one operand is enough
+    go : (c : tie.After-u64-at Inv-loop μ-loop) → need c ≤ 1 → (t : Bool) → eqb (found c) 0 ≡ t → part-of (need c) (bits c) ≡ false
+    go c one true e = part-is c (ltb (members (found c)) (need c)) refl ∙ rw e
+    go c one false e = part-is c false (le-ltb (members (found c)) (need c) (omega (arith, members-some (found c) (eqb-false (found c) 0 e)))) ∙ rw e
+
+-- those with operands but without the lowered ones have all that they need
+all-told : (s z l : Bool) → cond (s && z) (not (s && (z && not l))) (s && (z && not l)) ≡ (s && (z && l))
+all-told true true true = refl
+all-told true true false = refl
+all-told true false l = refl
+all-told false z l = refl
 
 returns : tie.Need-returns Inv-loop μ-loop
 returns c =
@@ -149,11 +190,12 @@ returns c =
     let z = start .args in
     let l = c .before .loop in
     let end : l .rest ≡ 0 = c .loop-test .left in
-    let begin = c .before .before .before .level-words .ensures in (
-      (λ i. found-all _ (z .lines) (l .met) (rw end at (l .inv .all)) i
+    let begin = c .before .before .before .level-words .ensures in
+    let hit = found-all _ (z .lines) (l .hit) (rw end at (l .inv .some)) in
+    let lowered = found-all _ (z .lines) (l .lowered) (rw end at (l .inv .part)) in (
+      (λ i. member-differ (l .hit) (l .lowered) i ∙ rw (hit i, lowered i) (all-told (isMember (z .lines) i) _ _)
           ∙ in-lines (start .pre .0 .laid-out) (start .pre .1 .0) begin refl (start .pre .1 .1) (z .x) i (all-of (getD (now (z .needs)) i 0))),
-      (λ i. found-all _ (z .lines) (l .lowered) (rw end at (l .inv .part)) i
-          ∙ in-lines (start .pre .0 .laid-out) (start .pre .1 .0) begin refl (start .pre .1 .1) (z .x) i (part-of (getD (now (z .needs)) i 0))),
+      (λ i. lowered i ∙ in-lines (start .pre .0 .laid-out) (start .pre .1 .0) begin refl (start .pre .1 .1) (z .x) i (part-of (getD (now (z .needs)) i 0))),
     )
 
 pub meeting-spec : {M : Type 1} → statement M
@@ -170,8 +212,8 @@ meeting-spec =
     mul-u64-at
     add-u64-at
     u64-at-requires
-    element-copy-out-is-enough
-    is-enough-requires
+    element-copy-out-need
+    is-short-requires
     loop-less
     loop-again
     loop-less-2
