@@ -1,5 +1,5 @@
 // The route over built-in trees. No tree is stored: a child of S(n, h + 1) is S(m, h), and m is found by its place among the children.
-// In each level w is what the arguments of the levels above decide.
+// In each level w and needs are what the arguments of the levels above come to.
 ghost use mathlib.Core.Path.{_≡_};
 ghost use mathlib.Core.Bool.{true, false};
 ghost use mathlib.Core.List.{List, []};

@@ -14,6 +14,7 @@ ghost use Rattle.evaluator.specs.ByLevels.{Decided, Needs, Carried, Lowe
 use model::Model;
 use model::is_old;
 use model::kind;
+use model::line_bytes;
 use model::threshold;
 use model::words_in;
 use numbers::u64_at;
@@ -38,16 +39,21 @@ struct Hits {
     lowered: u64,
 }
 
-// The set of the lines that are set without operands: those of which all operands must be set. The last line is the highest digit.
+// The set of the lines that are set without operands: those of which all operands must be set. The last line is the highest digit. The place of the kind is
+// carried on, not made from the line anew: the layout is asked once.
 fn initial_set(file: &[u8], m: Model) -> u64
     requires { ⌜ Held (now file) m ⌝ }
     ensures { λ r. ⌜ r ≡ initialSet (systemIn (now (file .entry)) m) ⌝ }
 {
+    let first = m.kinds_at();
+    let step = line_bytes(file, m);
     let mut set: u64 = 0;
     let mut i = m.lines;
+    let mut at = first + step * i;
     while i != 0 {
         i -= 1;
-        if kind(file, m, i) == 1 {
+        at -= step;
+        if file[at] == 1 {
             set = 2 * set + 1;
         } else {
             set = 2 * set;

@@ -1,4 +1,4 @@
-// The route over lent trees, whose gaps stand in two slices. In each level w is what the arguments of the levels above decide.
+// The route over lent trees, whose gaps stand in two slices. In each level w and needs are what the arguments of the levels above come to.
 ghost use mathlib.Core.Path.{_≡_};
 ghost use mathlib.Core.Bool.{true, false};
 ghost use Prim.Native.Nat.{ℕ, suc, _<_, _≤_};

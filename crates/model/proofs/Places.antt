@@ -1,10 +1,10 @@
 -- Where a line's kind, its threshold and its word for a level stand in the file.
 -- Assumes nothing.
-use mathlib.Core.Bool.{true, false}
+use mathlib.Core.Bool.{Bool, true, false}
 use mathlib.Core.List.{List}
 use mathlib.Core.Path.{_≡_, refl, sym, _∙_, ap}
 use Prim.Native.Nat.{ℕ, zero, suc, _+_, _*_, _≤_, _<_}
-use native.Mathlib.Nat.{one-mul, mul-comm, mul-assoc}
+use native.Mathlib.Nat.{mul-comm, mul-assoc}
 use native.Mathlib.Omega.{arith}
 use lib.ListN.{length, getD, drop, replicate}
 use lib.Seq.{drop-drop, getD-drop}
@@ -28,17 +28,18 @@ module _ {file : List ℕ} {m : Model} (h : LaidOut file m) where
   pub header-whole : 16 ≤ length file
   header-whole = omega (arith, h .laid, h .whole)
 
--- the kind of a line
-line-kind : (n d : ℕ) (file : List ℕ) (i : ℕ) → i < n
+-- the kind of a line, and that it is there
+pub line-kind : (n d : ℕ) (file : List ℕ) (i : ℕ) → i < n
     → getD (sections n d file .kinds) i 0 ≡ getD file (kindsAt d + lineBytes (isOld n d file) * i) 0
 line-kind n d file i h =
     every-at (lineBytes (isOld n d file)) n (drop (kindsAt d) file) i h ∙ getD-drop (kindsAt d) file (lineBytes (isOld n d file) * i) 0
 
-pub old-kind : (n d : ℕ) (file : List ℕ) (i : ℕ) → i < n → isOld n d file ≡ true → getD (sections n d file .kinds) i 0 ≡ getD file (kindsAt d + i) 0
-old-kind n d file i h old = line-kind n d file i h ∙ rw (old, one-mul i)
-
-pub new-kind : (n d : ℕ) (file : List ℕ) (i : ℕ) → i < n → isOld n d file ≡ false → getD (sections n d file .kinds) i 0 ≡ getD file (kindsAt d + 2 * i) 0
-new-kind n d file i h new = line-kind n d file i h ∙ rw new
+pub kind-room : (file : List ℕ) (m : Model) (i : ℕ) → LaidOut file m → i < m .lines → kindsAt (m .levels) + lineBytes (isOld (m .lines) (m .levels) file) * i < length file
+kind-room file m i laid h = go (isOld (m .lines) (m .levels) file) refl
+  where
+    go : (t : Bool) → isOld (m .lines) (m .levels) file ≡ t → kindsAt (m .levels) + lineBytes t * i < length file
+    go true old = omega (arith, old-words laid old, laid .whole)
+    go false new = omega (arith, new-words laid new, laid .whole)
 
 zero-at : (n i : ℕ) → getD {A = ℕ} (replicate n 0) i 0 ≡ 0
 zero-at zero i = refl

@@ -8,6 +8,7 @@ pub use layout::Model;
 pub use layout::Reading;
 pub use place::is_old;
 pub use place::kind;
+pub use place::line_bytes;
 pub use place::threshold;
 pub use place::words_in;
 pub use search::misfits;

@@ -2,7 +2,7 @@
 ghost use mathlib.Core.Path.{_≡_};
 ghost use Prim.Native.Nat.{_≤_, _<_};
 ghost use lib.ListN.{length, getD};
-ghost use Rattle.model.specs.File.{wordsIn, isOld};
+ghost use Rattle.model.specs.File.{wordsIn, isOld, lineBytes};
 ghost use Rattle.model.specs.Held.{LaidOut, systemIn};
 use super::layout::Model;
 use numbers::u32_at;
@@ -24,17 +24,25 @@ pub fn is_old(file: &[u8], m: Model) -> bool
     words_in(file) == m.old_words_at()
 }
 
+// How many bytes a line has in front of the words: its kind, and in a new file its threshold.
+pub fn line_bytes(file: &[u8], m: Model) -> usize
+    requires { ⌜ (m .lines ≤ 64) × (m .levels ≤ 8) ⌝ }
+    requires { ⌜ 16 ≤ length (now file) ⌝ }
+    ensures { λ r. ⌜ r ≡ lineBytes (isOld (m .lines) (m .levels) (now (file .entry))) ⌝ }
+{
+    if !is_old(file, m) {
+        return 2;
+    }
+    1
+}
+
 pub fn kind(file: &[u8], m: Model, i: usize) -> u8
     requires { ⌜ LaidOut (now file) m ⌝ }
     requires { ⌜ i < m .lines ⌝ }
     ensures { λ r. ⌜ r ≡ getD (systemIn (now (file .entry)) m .kinds) i 0 ⌝ }
 {
-    let at = m.kinds_at();
-    if is_old(file, m) {
-        file[at + i]
-    } else {
-        file[at + 2 * i]
-    }
+    let at = m.kinds_at() + line_bytes(file, m) * i;
+    file[at]
 }
 
 pub fn threshold(file: &[u8], m: Model, i: usize) -> u8

@@ -1,4 +1,5 @@
-// The innermost level: no level is below it, so every child of its tree is a leaf and takes one query. w is what the arguments of the levels above decide.
+// The innermost level: no level is below it, so every child of its tree is a leaf and takes one query. w and needs are what the arguments of the
+// levels above come to.
 ghost use mathlib.Core.List.{List, []};
 ghost use Prim.Native.Nat.{ℕ, _<_, _^_};
 ghost use lib.ListN.{replicate};
