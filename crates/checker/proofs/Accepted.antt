@@ -1,7 +1,7 @@
 -- What an accepted file is, for those who use it: what holds of every sign, kind and word is said at each index below their number, and every vote
 -- needs an operand.
 -- Assumes nothing.
-use mathlib.Core.Bool.{Bool, true, false}
+use mathlib.Core.Bool.{false}
 use mathlib.Core.List.{List, _++_}
 use mathlib.Core.Path.{_≡_, refl, sym, _∙_, ap, ap₂, subst}
 use mathlib.Mathlib.Data.Bool.Basic.{or-eq-false-eq-eq-false-and-eq-false as neither}
@@ -10,13 +10,13 @@ use native.Mathlib.Decide.{decLt}
 use native.Mathlib.Nat.{min-eq-left}
 use native.Mathlib.Omega.{arith}
 use lib.Dec.{ltb}
-use lib.ListN.{length, getD, drop, length-drop, length-replicate, List·getD-eq-default}
+use lib.ListN.{length, getD, length-drop, List·getD-eq-default}
 use lib.Seq.{length-take-le}
 use borrow.Author.Tests.{ltb-false, not-false}
 use Rattle.answers.specs.Check.{Check, firstOf}
 use Rattle.answers.proofs.Checks.{Passes, passes-both, none-first, after-none, inside}
 use Rattle.system.specs.Query.{VotesNeed}
-use Rattle.model.specs.File.{kindsAt, linesIn, levelsIn, wordsIn, lineBytes, highestKind, thresholdsFrom, sections, decode}
+use Rattle.model.specs.File.{kindsAt, linesIn, levelsIn, wordsIn, lineBytes, highestKind, sections, decode}
 use Rattle.model.specs.Checks.{some, strays, misfits, thresholdMisfits}
 use Rattle.model.specs.Held.{LaidOut, Held}
 use Rattle.checker.specs.Checks.{headerChecks, sectionChecks, fileChecks, fileNumber, checkAnswer}
@@ -29,7 +29,7 @@ use Rattle.sets.specs.Set.{full}
 use Rattle.sets.proofs.Order.{within-le}
 use Rattle.sets.proofs.Range.{full-below}
 use Rattle.model.proofs.Searches.{false-some, false-below}
-use Rattle.model.proofs.Lines.{every-length}
+use Rattle.model.proofs.Lines.{every-length, thresholds-length}
 use Rattle.numbers.proofs.Codec.{words-length}
 use Rattle.model.proofs.Refusals.{AcceptedAs, RefusedAs, accepted-as, refused-as}
 use Rattle.model.proofs.RoundTrip.{oldIn}
@@ -69,11 +69,7 @@ count-kinds file = every-length _ _ _
 
 pub count-thresholds : (file : List ℕ) → length (decode file .thresholds) ≡ linesIn file
 unfolding decode
-count-thresholds file = at (oldIn file) (linesIn file) (drop (kindsAt (levelsIn file) + 1) file)
-  where
-    at : (old : Bool) (n : ℕ) (s : List ℕ) → length (thresholdsFrom old n s) ≡ n
-    at true n s = length-replicate n 0
-    at false n s = every-length 2 n s
+count-thresholds file = thresholds-length (oldIn file) _ _
 
 pub count-words : (file : List ℕ) → length (decode file .words) ≡ linesIn file * levelsIn file
 unfolding decode

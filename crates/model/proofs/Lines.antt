@@ -1,16 +1,16 @@
 -- The sections of a file: the entries of a list some places apart, the words of a line, searches over words by their places.
 -- Assumes nothing.
-use mathlib.Core.Bool.{Bool}
+use mathlib.Core.Bool.{Bool, true, false}
 use mathlib.Core.List.{List}
 use mathlib.Core.Path.{_≡_, refl, sym, _∙_, ap}
 use Prim.Native.Nat.{ℕ, zero, suc, _+_, _*_, _<_}
 use native.Mathlib.Nat.{mul-zero, mul-suc}
 use native.Mathlib.Omega.{arith}
-use lib.ListN.{length, getD, drop}
+use lib.ListN.{length, getD, drop, length-replicate}
 use lib.Seq.{drop-drop, getD-drop}
 use Rattle.system.specs.Query.{wordsOf}
 use Rattle.numbers.specs.Numbers.{numberAt, wordsFrom}
-use Rattle.model.specs.File.{wordsIn, every, sections}
+use Rattle.model.specs.File.{wordsIn, every, thresholdsFrom, sections}
 use Rattle.model.specs.Checks.{some, someBelow}
 use Rattle.numbers.proofs.Codec.{words-length, words-part, word-at}
 use Rattle.model.proofs.Sizes.{line-fits}
@@ -29,6 +29,10 @@ pub every-length : (places n : ℕ) (s : List ℕ) → length (every places n s)
 unfolding every
 every-length places zero s = refl
 every-length places (suc n) s = ap suc (every-length places n (drop places s))
+
+pub thresholds-length : (old : Bool) (n : ℕ) (s : List ℕ) → length (thresholdsFrom old n s) ≡ n
+thresholds-length true n s = length-replicate n 0
+thresholds-length false n s = every-length 2 n s
 
 pub words-of : (n d : ℕ) (file : List ℕ) (i : ℕ) → i < n
     → wordsOf (sections n d file) i ≡ wordsFrom d (drop (wordsIn file + 8 * (i * d)) file)

@@ -10,11 +10,10 @@ use denote.Ref.{now}
 use borrow.Author.Needs.{needs}
 use borrow.Author.Tests.{eq-eqb, ne-eqb, lt-leb}
 use lib.Dec.{eqb}
-use lib.ListN.{length, getD}
+use lib.ListN.{getD}
 use Rattle.system.specs.Query.{valueOf, setOf}
 use Rattle.model.specs.File.{isOld, lineBytes}
-use Rattle.model.specs.Held.{systemIn}
-use Rattle.evaluator.specs.ByLevels.{initialValue, initialSet}
+use Rattle.evaluator.specs.ByLevels.{initialSet}
 use Rattle.model.proofs.Places.{header-whole, line-kind, kind-room}
 use Rattle.system.proofs.LineSets.{set-same-values, digits-from, digits-fit, digits-none}
 use Rattle.evaluator.proofs.initial_set.Statement.{statement}

@@ -1,9 +1,8 @@
 -- `evaluator::line_need` meets its contract: by the line's kind.
 -- Assumes nothing.
-use mathlib.Core.Path.{_≡_, refl, sym, _∙_}
+use mathlib.Core.Path.{_≡_, refl, _∙_}
 use Prim.Native.Nat.{ℕ, zero, suc, _≤_, _<_}
 use native.Mathlib.Omega.{arith}
-use borrow.Author.Needs.{needs}
 use Rattle.evaluator.specs.ByLevels.{needed}
 use Rattle.evaluator.proofs.line_need.Statement.{statement}
 use Rattle.evaluator.proofs.line_need.Tie as tie

@@ -1,6 +1,5 @@
 -- `reader::read_lines` meets its contract: after i lines each slice begins with their entries of its section, and the rest is as it was.
 -- Assumes nothing.
-use mathlib.Core.Bool.{Bool, true, false}
 use mathlib.Core.List.{List, [], _∷_, _++_}
 use mathlib.Core.Path.{_≡_, sym, _∙_, ap}
 use Prim.Native.Nat.{ℕ, _+_, _-_, _≤_, _<_}
@@ -8,13 +7,12 @@ use native.Mathlib.Numerals.{add-one}
 use native.Mathlib.Omega.{arith}
 use denote.Ref.{now}
 use borrow.Author.Needs.{needs}
-use lib.ListN.{length, getD, set, take, drop, length-set, length-replicate}
+use lib.ListN.{length, getD, set, take, drop, length-set}
 use lib.Seq.{take-suc, take-length, length-take-le}
-use Rattle.model.specs.File.{kindsAt, isOld, thresholdsFrom}
+use Rattle.model.specs.File.{isOld}
 use Rattle.model.specs.Held.{systemIn}
 use Rattle.model.specs.Says.{filled}
-use Rattle.model.specs.declared.layout.Model.{Model}
-use Rattle.model.proofs.Lines.{every-length}
+use Rattle.model.proofs.Lines.{every-length, thresholds-length}
 use Rattle.lists.proofs.Front.{front-store}
 use Rattle.reader.proofs.read_lines.Statement.{statement}
 use Rattle.reader.proofs.read_lines.Tie as tie
@@ -40,14 +38,6 @@ module _ {new old : List ℕ} {n : ℕ} (count : length new ≡ n) where
   begun-all : {l : List ℕ} {i : ℕ} → i ≡ n → Begun new old i l → l ≡ filled 0 new old
   begun-all last begun =
       begun .entries ∙ ap (λ (j : ℕ). take j new ++ drop j old) (last ∙ sym count) ∙ ap (λ (r : List ℕ). r ++ drop (length new) old) (take-length new)
-
--- there is a threshold for each line
-thresholds-count : (file : List ℕ) (m : Model) → length (systemIn file m .thresholds) ≡ m .lines
-thresholds-count file m = at (isOld (m .lines) (m .levels) file) (m .lines) (drop (kindsAt (m .levels) + 1) file)
-  where
-    at : (old : Bool) (n : ℕ) (s : List ℕ) → length (thresholdsFrom old n s) ≡ n
-    at true n s = length-replicate n 0
-    at false n s = every-length 2 n s
 
 abbrev Inv-loop : tie.InvT-loop
 Inv-loop file m kinds₀ thresholds₀ n i₀ kinds thresholds i =
@@ -89,7 +79,7 @@ loop-again c =
     let inv = at-loop .loop .inv in (
       omega arith,
       begun-more (every-length _ _ _) (room .0) inside (c .before .kind .ensures) (inv .1),
-      begun-more (thresholds-count file m) (room .1) inside (c .threshold .ensures) (inv .2),
+      begun-more (thresholds-length (isOld (m .lines) (m .levels) file) _ _) (room .1) inside (c .threshold .ensures) (inv .2),
     )
 
 same-length : tie.Need-same-length Inv-loop μ-loop
@@ -105,7 +95,7 @@ returns c =
     let m = start .args .m in
     let inv = c .before .loop .inv in
     let all : c .before .loop .i ≡ m .lines = omega arith in
-    (begun-all (every-length _ _ _) all (inv .1), begun-all (thresholds-count file m) all (inv .2))
+    (begun-all (every-length _ _ _) all (inv .1), begun-all (thresholds-length (isOld (m .lines) (m .levels) file) _ _) all (inv .2))
 
 pub read-lines-spec : {M : Type 1} → statement M
 read-lines-spec =
