@@ -97,7 +97,7 @@ pub fn plain_level(
         let Outcome::Settled { set, left: unused } = round else {
             return Outcome::Spent;
         };
-        // Made anew, and not the round handed on: a copy of the enum has bytes between its fields, which costs more than the round.
+        // Made anew, and not the round handed on, which is equal: on dense models that copy takes up to two thirds as long again (docs/DECISIONS.md, "Speed").
         if set == x {
             return Outcome::Settled { set, left: unused };
         }
