@@ -174,7 +174,7 @@ fn p_between_equal_bounds() {
 
 #[test]
 fn leaf_counts() {
-    for (n, h, count) in [(4, 2, 8), (8, 2, 21), (4, 3, 13), (64, 1, 64)] {
+    for (n, h, count) in [(4, 2, 8), (8, 2, 21), (4, 3, 13), (64, 1, 64), (64, 0, 1)] {
         assert_eq!(ffi::leaf_count(n, h), Answer { count, ..Answer::default() });
     }
 }

@@ -3,11 +3,12 @@
 use mathlib.Core.List.{List}
 use mathlib.Core.Path.{_≡_, _∙_, ap}
 use Prim.Native.Nat.{ℕ, zero, suc, _+_, _*_, _/_, _^_, _≤_}
-use native.Mathlib.Nat.{le-refl, le-trans, mul-le-mul, mul-le-mul-right, add-mul, suc-mul, pow-succ', pow-le-pow-right}
+use native.Mathlib.Nat.{le-trans, mul-le-mul, mul-le-mul-right, add-mul, suc-mul, pow-succ', pow-le-pow-right}
 use native.Mathlib.Omega.{arith}
 use lib.Pow.{pow-add}
 use Rattle.trees.specs.Tree.{leaves, IsTree}
 use Rattle.trees.specs.Built.{built, leafCount}
+use Rattle.trees.proofs.Halves.{by-halves}
 use Rattle.trees.proofs.Built.{leaf-none, leaf-zero, leaf-step, built-tree}
 use Rattle.fixpoint.proofs.Levels.{levels-sum}
 use Rattle.fixpoint.proofs.Queries.{queries-product}
@@ -16,32 +17,22 @@ use Rattle.routes.specs.Parts.{leastOf, greatestOf, queriesFrom, LineCou
 
 -- L(n, h) is at most 64 ^ h for n up to 64
 
--- with at most c leaves to each child, S(n, h + 1) has at most n * c; m only bounds n
-by-children : (h c : ℕ) → ((n : ℕ) → n ≤ 64 → leafCount n h ≤ c) → (m n : ℕ) → n ≤ m → n ≤ 64 → leafCount n (suc h) ≤ n * c
-by-children h c few zero zero p q = omega (arith, leaf-none (suc h))
-by-children h c few zero (suc n) p q = absurd (omega arith)
-by-children h c few (suc m) zero p q = omega (arith, leaf-none (suc h))
-by-children h c few (suc m) (suc n) p q =
-    omega (
-      arith,
-      leaf-step n h,
-      by-children h c few m (suc n / 2) (omega arith) (omega arith),
-      few (suc n) q,
-      by-children h c few m (n / 2) (omega arith) (omega arith),
-      split,
-    )
+-- with at most c leaves to each child, S(n, h + 1) has at most n * c
+by-children : (h c : ℕ) → ((n : ℕ) → n ≤ 64 → leafCount n h ≤ c) → (n : ℕ) → n ≤ 64 → leafCount n (suc h) ≤ n * c
+by-children h c few =
+    by-halves (λ (n : ℕ). n ≤ 64 → leafCount n (suc h) ≤ n * c) (λ q. omega (arith, leaf-none (suc h)))
+    (λ n first last q. omega (arith, leaf-step n h, first (omega arith), few (suc n) q, last (omega arith), split n))
   where
-    halves : suc n ≡ suc n / 2 + suc (n / 2)
-    halves = omega arith
-
-    split : suc n * c ≡ suc n / 2 * c + (n / 2 * c + c)
-    split = ap (λ (x : ℕ). x * c) halves ∙ add-mul (suc n / 2) (suc (n / 2)) c ∙ rw suc-mul
+    split : (n : ℕ) → suc n * c ≡ suc n / 2 * c + (n / 2 * c + c)
+    split n =
+        let halves : suc n ≡ suc n / 2 + suc (n / 2) = omega arith in
+        ap (λ (x : ℕ). x * c) halves ∙ add-mul (suc n / 2) (suc (n / 2)) c ∙ rw suc-mul
 
 pub leaf-few : (h n : ℕ) → n ≤ 64 → leafCount n h ≤ 64 ^ h
 leaf-few zero zero q = omega (arith, leaf-none 0)
 leaf-few zero (suc n) q = omega (arith, leaf-zero n)
 leaf-few (suc h) n q =
-    rw (pow-succ' 64 h) (le-trans (by-children h (64 ^ h) (leaf-few h) n n (le-refl n) q) (mul-le-mul-right (64 ^ h) q))
+    rw (pow-succ' 64 h) (le-trans (by-children h (64 ^ h) (leaf-few h) n q) (mul-le-mul-right (64 ^ h) q))
 
 -- over built-in trees for up to 64 lines, at most 8 levels high together
 

@@ -69,6 +69,8 @@ table =
     row (plainly (pyrometers 3) 0 15 ++ overBuilt (pyrometers 3) 0 15) (6 ∷ 6 ∷ 4 ∷ 6 ∷ 16 ∷ []) ∷
     -- One line that is selected at two levels is two operands.
     row (plainly oneLineTwice 0 3 ++ overBuilt oneLineTwice 0 3) (3 ∷ 3 ∷ 3 ∷ 3 ∷ 4 ∷ []) ∷
+    -- The heights that the table of leaf counts leaves out (request W5): 1 leaf and n leaves, and none where n is 0.
+    row (leafCount 0 0 ∷ leafCount 1 0 ∷ leafCount 64 0 ∷ leafCount 0 1 ∷ leafCount 1 1 ∷ leafCount 63 1 ∷ []) (0 ∷ 1 ∷ 1 ∷ 0 ∷ 1 ∷ 63 ∷ []) ∷
     []
 
 -- every row of a table holds

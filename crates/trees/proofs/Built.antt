@@ -10,6 +10,7 @@ use lib.ListN.{length, getD, length-append, List·getD-append, replicate, replic
 use lib.Seq.{getD-at, getD-append-add}
 use Rattle.trees.specs.Tree.{children, grow, leaves, IsTree, leaf}
 use Rattle.trees.specs.Built.{halvedChildren, built, builtChildren, leafCount}
+use Rattle.trees.proofs.Halves.{by-halves}
 use Rattle.trees.proofs.Children.{Trees, none, more, trees-append, total, total-append, one-of-total, Some, append-some, of-some, children-grow, grow-leaves, grow-tree}
 
 module _ (below : ℕ → List ℕ) where
@@ -59,14 +60,9 @@ built-children-halves (suc n) h l =
 
 -- S(n, h) has n children
 pub built-children-length : (n h : ℕ) → length (builtChildren n h) ≡ n
-built-children-length n h = up-to n n (le-refl n)
-  where
-    up-to : (m n : ℕ) → n ≤ m → length (builtChildren n h) ≡ n
-    up-to zero zero p = rw (built-children-zero h)
-    up-to zero (suc n) p = absurd (omega arith)
-    up-to (suc m) zero p = rw (built-children-zero h)
-    up-to (suc m) (suc n) p =
-        rw (built-children-step n h, length-append) (omega (arith, up-to m (suc n / 2) (omega arith), up-to m (n / 2) (omega arith)))
+built-children-length n h =
+    by-halves (λ (m : ℕ). length (builtChildren m h) ≡ m) (rw (built-children-zero h))
+    (λ m first last. rw (built-children-step m h, length-append) (omega (arith, first, last))) n
 
 -- the child at a place: among those of the first half, between the halves, or among those of the second
 module _ (n h i : ℕ) (some : 0 < n) where
@@ -85,17 +81,13 @@ module _ (n h i : ℕ) (some : 0 < n) where
 
 -- the children of S(n, 1) are n leaves
 pub built-children-leaves : (n : ℕ) → builtChildren n 0 ≡ replicate n []
-unfolding halvedChildren built
-built-children-leaves n = halves n n (le-refl n)
-  where
-    halves : (m k : ℕ) → k ≤ m → halvedChildren m (λ i. built i 0) k ≡ replicate k []
-    halves zero zero p = refl
-    halves zero (suc k) p = absurd (omega arith)
-    halves (suc m) zero p = refl
-    halves (suc m) (suc k) p =
-        let all : suc k / 2 + suc (k / 2) ≡ suc k = omega arith in
-        rw (halves m (suc k / 2) (omega arith), halves m (k / 2) (omega arith))
-        (replicate-append-replicate {A = List ℕ} (suc k / 2) (suc (k / 2)) [] ∙ ap (λ (n : ℕ). replicate n []) all)
+unfolding built
+built-children-leaves =
+    by-halves (λ (n : ℕ). builtChildren n 0 ≡ replicate n []) (built-children-zero 0)
+    (λ n first last.
+    let all : suc n / 2 + suc (n / 2) ≡ suc n = omega arith in
+    built-children-step n 0
+    ∙ rw (first, last) (replicate-append-replicate {A = List ℕ} (suc n / 2) (suc (n / 2)) [] ∙ ap (λ (m : ℕ). replicate m []) all))
 
 pub built-children-some : (n h : ℕ) → Some (builtChildren (suc n) h)
 built-children-some n h = rw (built-children-step n h) (append-some (builtChildren (suc n / 2) h) (built (suc n) h) (builtChildren (n / 2) h))
@@ -148,3 +140,7 @@ leaf-step n h =
       total-built-children (suc n / 2) h,
       total-built-children (n / 2) h,
     )
+
+pub leaf-one : (n : ℕ) → leafCount n 1 ≡ n
+leaf-one =
+    by-halves (λ (n : ℕ). leafCount n 1 ≡ n) (leaf-none 1) (λ n first last. omega (arith, leaf-step n 0, leaf-zero n, first, last))

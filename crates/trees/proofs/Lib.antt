@@ -1,3 +1,4 @@
+pub mod Halves
 pub mod Children
 pub mod Built
 pub mod Universal

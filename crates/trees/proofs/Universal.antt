@@ -8,9 +8,10 @@ use native.Mathlib.Decide.{decLe}
 use native.Mathlib.Omega.{arith}
 use Rattle.trees.specs.Tree.{children, leaves}
 use Rattle.trees.specs.Fit.{Placed, done, here, skip, FitsIn, Universal}
-use Rattle.trees.specs.Built.{halvedChildren, built}
+use Rattle.trees.specs.Built.{built, builtChildren}
+use Rattle.trees.proofs.Halves.{by-halves}
 use Rattle.trees.proofs.Children.{Trees, more, trees-front, trees-back, total, total-append, children-trees, children-total}
-use Rattle.trees.proofs.Built.{children-built}
+use Rattle.trees.proofs.Built.{built-children-step, children-built}
 
 module _ {R : List ℕ → List ℕ → Type 0} where
   -- places in a list are places behind more of them, and in front of more of them
@@ -70,19 +71,16 @@ room-step h n us u vs before at after ts = by (split (suc n / 2) ts)
     by (passes ts t rest low high) is q =
         placed-append (before ts (trees-front ts (t ∷ rest) is) low) (last ts t rest high q (trees-back ts (t ∷ rest) is))
 
--- the children that are built of universal trees have places for any trees with at most n leaves together
-room-built : (h : ℕ) (below : ℕ → List ℕ) → ((n : ℕ) → Universal (suc n) h (below (suc n))) → (m n : ℕ) → n ≤ m → RoomFor h n (halvedChildren m below n)
-unfolding halvedChildren
-room-built h below at zero n p = λ ts is q. room-none h ts is (omega arith)
-room-built h below at (suc m) zero p = room-none h
-room-built h below at (suc m) (suc n) p =
-    room-step h n _ _ _
-    (room-built h below at m (suc n / 2) (omega arith)) (at n) (room-built h below at m (n / 2) (omega arith))
+-- the children of S(n, h + 1) have places for any trees with at most n leaves together, where each S(n, h) is universal
+room-built : (h : ℕ) → ((n : ℕ) → Universal (suc n) h (built (suc n) h)) → (n : ℕ) → RoomFor h n (builtChildren n h)
+room-built h at =
+    by-halves (λ (n : ℕ). RoomFor h n (builtChildren n h)) (room-none h)
+    (λ n first last. rw (built-children-step n h) (room-step h n _ _ _ first (at n) last))
 
 pub built-universal : (n h : ℕ) → Universal (suc n) h (built (suc n) h)
 unfolding Universal FitsIn
 built-universal n zero t i l = tt
 built-universal n (suc h) t i l =
     rw (children-built n h)
-    (room-built h (λ m. built m h) (λ m. built-universal m h) (suc n) (suc n) (omega arith) (children (suc h) t)
-    (children-trees h t i) (omega (arith, children-total (suc h) t)))
+    (room-built h (λ m. built-universal m h) (suc n) (children (suc h) t) (children-trees h t i)
+    (omega (arith, children-total (suc h) t)))

@@ -13,12 +13,21 @@ pub enum LeafCount {
     Refused(Refusal),
 }
 
-// L(n, h), looked up.
+// L(n, h): from height 2 on it is looked up; of height 1 it is n, and of height 0 it is 1, or 0 where n is 0.
 fn leaf_count_at(n: usize, h: usize) -> u64
     requires { ⌜ (n ≤ 64) × (h ≤ 8) ⌝ }
     ensures { λ r. ⌜ r ≡ leafCount n h ⌝ }
 {
-    LEAF_COUNTS[h * 65 + n] as u64
+    if 1 < h {
+        return LEAF_COUNTS[(h - 2) * 65 + n] as u64;
+    }
+    if h == 1 {
+        return n as u64;
+    }
+    if n == 0 {
+        return 0;
+    }
+    1
 }
 
 // The number of leaves of the built-in tree of height h for n lines.
