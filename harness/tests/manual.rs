@@ -1,5 +1,6 @@
 //! What the manual shows: the example in C, compiled against the static library and run, prints what stands beside it, and the manual has both
-//! as they are; its rows of model P's bytes are the new file of the sample model, and its page is the one that the page program prints.
+//! as they are; its rows of model P's bytes are the new file of the sample model, and its page is the one that the page program prints;
+//! the library takes no more memory than it says.
 
 use std::fs;
 use std::path::Path;
@@ -71,4 +72,24 @@ fn the_manual_shows_the_page_of_model_p() {
     let page = String::from_utf8(page.stdout).expect("it is ASCII");
     assert_eq!(page.lines().map(str::len).collect::<Vec<_>>(), [40; 3]);
     assert!(text("docs/MANUAL.md").contains(&format!("```\n{page}```\n")));
+}
+
+#[test]
+fn the_library_takes_no_more_memory_than_the_manual_says() {
+    let manual = text("docs/MANUAL.md");
+    let most = manual.split("under ").find_map(|rest| rest.split_once(" bytes of read-only memory"));
+    let most: u64 = most.expect("it says so").0.replace(',', "").parse().expect("it is a number");
+    let size =
+        Command::new("size").arg(root("target/staticlib/libsolver_c.a")).output().expect("size is there");
+    assert!(size.status.success());
+    // A row for each object: its code with its constants, its data, and its data that is 0 at first.
+    let rows = String::from_utf8(size.stdout).expect("it is ASCII");
+    let sum = |column: usize| -> u64 {
+        rows.lines()
+            .skip(1)
+            .map(|row| row.split_whitespace().nth(column).unwrap().parse::<u64>().unwrap())
+            .sum()
+    };
+    assert!((1..most).contains(&sum(0)), "{} bytes", sum(0));
+    assert_eq!((sum(1), sum(2)), (0, 0));
 }

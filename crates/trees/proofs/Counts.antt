@@ -16,7 +16,7 @@ use Rattle.trees.proofs.Every.{every, at}
 abbrev pub entry : List ℕ → ℕ → ℕ → ℕ
 entry table n h = getD table (h * 65 + n) 0
 
--- L(n, h + 1) as the table has it, which has none for height 1: there it is n
+-- L(n, h + 1) by the table; it has no numbers for height 1, where it is n
 abbrev entryBelow : List ℕ → ℕ → ℕ → ℕ
 entryBelow table n zero = n
 entryBelow table n (suc h) = entry table n h
