@@ -1,4 +1,4 @@
--- Induction by halves, as the built-in trees are built of theirs.
+-- Induction by halves: S(n, h) is built of S(n/2, h) and S((n - 1)/2, h), and facts about it are proved along them.
 -- Assumes nothing.
 use Prim.Native.Nat.{ℕ, zero, suc, _/_, _≤_}
 use native.Mathlib.Nat.{le-refl}

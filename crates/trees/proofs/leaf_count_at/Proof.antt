@@ -1,5 +1,5 @@
 -- `trees::leaf_count_at` meets its contract: antt computes that each of the table's numbers follows the recurrence, and so it is the leaf count.
--- The heights that the table has no numbers for are laws.
+-- Heights 0 and 1, which have no numbers in the table, go by laws of the leaf count.
 -- Assumes nothing.
 use mathlib.Core.List.{List}
 use mathlib.Core.Path.{_≡_, sym, _∙_, ap}
