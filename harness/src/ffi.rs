@@ -1,7 +1,8 @@
 //! The engine's operations: declarations that follow `include/solver.h`, and a safe function for each.
-//! The engine asks nothing of its callers but valid slices that do not overlap, which Rust's references are.
+//! The engine asks nothing of its callers but valid slices of which none overlaps one that is written, as Rust's references are.
 
 use crate::random::full;
+use crate::reference::model::Parts;
 use crate::Answer;
 
 mod raw {
@@ -44,6 +45,15 @@ mod raw {
         pub fn solver_page(
             file: *const u8,
             file_len: usize,
+            buffer: *mut u8,
+            buffer_len: usize,
+            answer: *mut u64,
+        );
+        pub fn solver_join(
+            first: *const u8,
+            first_len: usize,
+            second: *const u8,
+            second_len: usize,
             buffer: *mut u8,
             buffer_len: usize,
             answer: *mut u64,
@@ -169,18 +179,46 @@ pub fn page(file: &[u8], buffer: &mut [u8]) -> Answer {
     })
 }
 
+pub fn join(first: &[u8], second: &[u8], buffer: &mut [u8]) -> Answer {
+    answered(|answer| unsafe {
+        raw::solver_join(
+            first.as_ptr(),
+            first.len(),
+            second.as_ptr(),
+            second.len(),
+            buffer.as_mut_ptr(),
+            buffer.len(),
+            answer,
+        )
+    })
+}
+
+/// What reading fills of a file of n lines and d levels, in slices just as long as it needs.
+pub fn parts_read(file: &[u8], n: usize, d: usize) -> Parts {
+    let mut parts =
+        Parts { signs: vec![9; d], kinds: vec![9; n], thresholds: vec![9; n], words: vec![9; n * d] };
+    let Parts { signs, kinds, thresholds, words } = &mut parts;
+    let answer = read(file, signs, kinds, thresholds, words);
+    assert_eq!((answer.number, answer.lines, answer.levels), (0, n as u64, d as u64));
+    parts
+}
+
 /// What every operation that takes a file answers, with nothing else to refuse if the file has n lines and d levels: reading, one
-/// query, the three judgings and the page.
-pub fn all_of_file(file: &[u8], n: usize, d: usize) -> [Answer; 6] {
+/// query, the three judgings, the page, and joining it with itself where that makes 64 lines at most.
+pub fn all_of_file(file: &[u8], n: usize, d: usize) -> Vec<Answer> {
     let all = full(n);
-    [
+    let mut answers = vec![
         read(file, &mut [0; 8], &mut [0; 64], &mut [0; 64], &mut [0; 512]),
         query(file, &vec![0; d]),
         plain(file, 0, all, u64::MAX),
         built(file, 0, all),
         lent(file, 0, all, &[], &[]),
         page(file, &mut [0; 2665]),
-    ]
+    ];
+    if 2 * n <= 64 {
+        answers.push(join(file, file, &mut [0; 4248]));
+    }
+    answers
 }
 
 pub fn leaf_count(n: usize, h: usize) -> Answer {

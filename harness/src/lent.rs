@@ -25,6 +25,11 @@ impl<T: Copy + Debug + PartialEq> Lent<T> {
     }
 }
 
+/// The length of the new file of a model of n lines and d levels, and so of the buffer that it needs.
+pub fn file_length(n: usize, d: usize) -> usize {
+    16 + d + 2 * n + 8 * n * d
+}
+
 /// How often each number was answered.
 #[derive(Default)]
 pub struct Seen(BTreeMap<u64, usize>);

@@ -4,7 +4,7 @@
 //! - `reference`: an unrelated implementation of document 01, which the tests compare the engine with.
 //! - `random`: models, files, bounds and trees from a seed.
 //! - `lent`: what the tests lend to operations, and which answers came up.
-//! - `baseline`: the routes and the bench page in Rust, which the benchmark compares the engine's speed with.
+//! - `baseline`: the routes, the bench page and joining in Rust, which the benchmark compares the engine's speed with.
 
 mod answer;
 pub mod baseline;

@@ -3,10 +3,12 @@
 //!
 //! `cargo run --release` takes some minutes, `cargo run --release -- --quick` some seconds.
 
+use std::cell::RefCell;
 use std::hint::black_box;
 use std::process::{Command, Stdio};
 use std::time::Instant;
 
+use harness::baseline::join::join;
 use harness::baseline::page::page;
 use harness::baseline::{by_levels, whole};
 use harness::random::{self, full, Density, Random};
@@ -120,7 +122,7 @@ fn median(mut times: Vec<f64>) -> f64 {
 }
 
 /// The seconds that so many judgements of a model take.
-fn timed(calls: usize, model: &Subject, judge: &dyn Fn(&Subject) -> Answer) -> f64 {
+fn timed<T>(calls: usize, model: &T, judge: &dyn Fn(&T) -> Answer) -> f64 {
     let start = Instant::now();
     for _ in 0..calls {
         black_box(judge(model));
@@ -130,7 +132,7 @@ fn timed(calls: usize, model: &Subject, judge: &dyn Fn(&Subject) -> Answer) -> f
 
 /// Calls all in turn, model by model, so that a machine that slows down for a while slows all. What takes long is repeated
 /// less, but five times at the least.
-fn measure(effort: Effort, models: &[Subject], judges: &[&dyn Fn(&Subject) -> Answer]) -> Times {
+fn measure<T>(effort: Effort, models: &[T], judges: &[&dyn Fn(&T) -> Answer]) -> Times {
     let once = |judge| models.iter().map(|model| timed(1, model, judge)).sum::<f64>();
     let calls: Vec<usize> =
         judges.iter().map(|&judge| (effort.seconds / once(judge)).ceil() as usize).collect();
@@ -383,6 +385,34 @@ fn print_pages(effort: Effort) {
     }
 }
 
+// ---- joining ----
+
+/// Joining by the engine and by Rust over words, as the engine does it.
+fn print_joins(effort: Effort) {
+    println!("\njoining two models, sparse, in new files: by the engine and by Rust; the median of the engine's time / Rust's");
+    println!("{:>5} {:>6} {:>8} {:>8} {:>7}", "lines", "levels", "engine", "rust", "rust");
+    for (lines, levels) in [(8, 2), (32, 2), (32, 8)] {
+        let pairs: Vec<[Subject; 2]> = (1..=effort.models)
+            .map(|seed| {
+                [seed, effort.models + seed].map(|seed| Subject::sparse(Layout::New, seed, lines, levels))
+            })
+            .collect();
+        let buffer = RefCell::new([0; 4248]);
+        let joined = |join: fn(&[u8], &[u8], &mut [u8]) -> Answer, [first, second]: &[Subject; 2]| {
+            let mut buffer = buffer.borrow_mut();
+            let answer = join(black_box(&first.file), black_box(&second.file), &mut *buffer);
+            black_box(&mut *buffer);
+            answer
+        };
+        for pair in &pairs {
+            assert_eq!(joined(ffi::join, pair), joined(join, pair), "the engine and Rust join differently");
+        }
+        let times = measure(effort, &pairs, &[&|pair| joined(ffi::join, pair), &|pair| joined(join, pair)]);
+        let [engine, rust] = [times.seconds[0], times.seconds[1]].map(time);
+        println!("{lines:2}+{lines:2} {levels:6} {engine:>8} {rust:>8} {:7.3}", times.ratios[1]);
+    }
+}
+
 // ---- the stack of the deepest runs ----
 
 /// The trees with the most calls within calls.
@@ -527,6 +557,7 @@ fn benchmark(effort: Effort) {
     }
 
     print_pages(effort);
+    print_joins(effort);
     print_stacks();
 }
 

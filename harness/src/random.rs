@@ -271,6 +271,20 @@ pub fn any_model(random: &mut Random, n: usize, d: usize) -> Model {
     model(random, n, &signs, density)
 }
 
+/// Models of so many lines each, of any of these sorts but with the same signs of d levels, as those have that can be joined.
+pub fn models_alike<const COUNT: usize>(
+    random: &mut Random,
+    lines: [usize; COUNT],
+    d: usize,
+) -> [Model; COUNT] {
+    let mut models = lines.map(|n| any_model(random, n, d));
+    let signs = models[random.between(0, COUNT - 1)].greatest.clone();
+    for model in &mut models {
+        model.greatest.clone_from(&signs);
+    }
+    models
+}
+
 /// The file of a model; where it has no votes, as often its old file.
 pub fn file(random: &mut Random, model: &Model) -> Vec<u8> {
     if !model.has_votes() && random.chance(50) {
@@ -278,6 +292,12 @@ pub fn file(random: &mut Random, model: &Model) -> Vec<u8> {
     } else {
         model.file()
     }
+}
+
+/// The file of some model of n lines and d levels.
+pub fn some_file(random: &mut Random, n: usize, d: usize) -> Vec<u8> {
+    let model = any_model(random, n, d);
+    file(random, &model)
 }
 
 // ---- bounds ----
@@ -530,6 +550,28 @@ pub fn damage_file_often(random: &mut Random, file: &mut Vec<u8>, n: usize, d: u
     for number in numbers.into_iter().rev() {
         damage_file(random, file, n, d, number);
     }
+}
+
+/// Two files of at most so many lines each and d levels: damaged or not, or with other levels or another sign in one of them.
+pub fn troubled_pair(random: &mut Random, most: usize, d: usize) -> [Vec<u8>; 2] {
+    let lines = [random.between(1, most), random.between(1, most)];
+    let mut models = models_alike(random, lines, d);
+    let changed = &mut models[random.between(0, 1)];
+    match random.between(0, 9) {
+        0 => changed.greatest[random.between(0, d - 1)] ^= true,
+        1 => {
+            let levels = random.between(1, 8);
+            *changed = any_model(random, changed.lines(), levels);
+        }
+        _ => {}
+    }
+    models.map(|model| {
+        let mut file = file(random, &model);
+        if random.chance(25) {
+            damage_file_often(random, &mut file, model.lines(), model.levels());
+        }
+        file
+    })
 }
 
 /// What writing takes, but for the buffer.

@@ -1,8 +1,9 @@
 //! The benchmark's Rust implementations against the reference, so that the benchmark compares equal work.
 
+use harness::baseline::join::join;
 use harness::baseline::page::page;
 use harness::baseline::{by_levels, whole};
-use harness::lent::Seen;
+use harness::lent::{file_length, Seen};
 use harness::random::{self, Random};
 use harness::reference;
 
@@ -51,6 +52,25 @@ fn the_baseline_makes_pages_as_the_reference_does() {
         assert_eq!(page(&file, &mut made), reference::page(&file, &mut expected), "{room} {file:?}");
         assert_eq!(made, expected, "{file:?}");
     }
+}
+
+#[test]
+fn the_baseline_joins_as_the_reference_does() {
+    let mut random = Random::new(904);
+    let mut seen = Seen::default();
+    for _ in 0..4000 {
+        let (most, d) =
+            if random.chance(80) { (8, random.between(1, 3)) } else { (64, random.between(1, 8)) };
+        let [first, second] = random::troubled_pair(&mut random, most, d);
+        let room = random.between(0, 3 * file_length(most, d));
+        let mut made = random.bytes(room);
+        let mut expected = made.clone();
+        let answer = join(&first, &second, &mut made);
+        assert_eq!(answer, reference::join(&first, &second, &mut expected), "{room} {first:?} {second:?}");
+        assert_eq!(made, expected, "{first:?} {second:?}");
+        seen.note(answer);
+    }
+    seen.assert_each(&[0, 1, 2, 3, 4, 5, 6, 7, 14, 15, 12], 50);
 }
 
 #[test]

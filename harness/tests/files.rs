@@ -1,6 +1,6 @@
 //! Reading and writing against the reference: answers, and every byte and word that was lent.
 
-use harness::lent::{Lent, Seen};
+use harness::lent::{file_length, Lent, Seen};
 use harness::random::{self, Random, Written, FILE_DAMAGES, WRITTEN_DAMAGES};
 use harness::reference::model::Parts;
 use harness::{ffi, reference, Answer};
@@ -35,17 +35,8 @@ fn write_both(random: &mut Random, written: &Written, length: usize) -> Answer {
     answer
 }
 
-fn some_file(random: &mut Random, n: usize, d: usize) -> Vec<u8> {
-    let model = random::any_model(random, n, d);
-    random::file(random, &model)
-}
-
 fn some_written(random: &mut Random, n: usize, d: usize) -> Written {
     Written { n, d, parts: random::any_model(random, n, d).parts() }
-}
-
-fn file_length(n: usize, d: usize) -> usize {
-    16 + d + 2 * n + 8 * n * d
 }
 
 #[test]
@@ -53,7 +44,7 @@ fn every_size_is_read() {
     let mut random = Random::new(201);
     for n in 1..=64 {
         for d in 1..=8 {
-            let file = some_file(&mut random, n, d);
+            let file = random::some_file(&mut random, n, d);
             for extra in [0, random.between(1, 40)] {
                 let lengths = [d + extra, n + extra, n + extra, n * d + extra];
                 let answer = read_both(&mut random, &file, lengths);
@@ -68,7 +59,7 @@ fn short_slices_are_refused_when_reading() {
     let mut random = Random::new(202);
     for _ in 0..500 {
         let (n, d) = (random.between(1, 64), random.between(1, 8));
-        let file = some_file(&mut random, n, d);
+        let file = random::some_file(&mut random, n, d);
         let exact = [d, n, n, n * d];
         for short in 0..4 {
             for length in [0, exact[short] - 1, random.between(0, exact[short] - 1)] {
@@ -99,7 +90,7 @@ fn the_first_of_several_refusals_answers_when_reading() {
     for _ in 0..20_000 {
         let (n, d) = (random.between(1, 64), random.between(1, 8));
         let (n, d) = if random.chance(70) { (n.min(6), d.min(3)) } else { (n, d) };
-        let mut file = some_file(&mut random, n, d);
+        let mut file = random::some_file(&mut random, n, d);
         random::damage_file_often(&mut random, &mut file, n, d);
         let lengths = if random.chance(30) { LARGEST.map(|most| random.between(0, most)) } else { LARGEST };
         seen.note(read_both(&mut random, &file, lengths));
@@ -192,19 +183,9 @@ fn what_was_written_is_read_back() {
             let answer =
                 ffi::write(n, d, &parts.signs, &parts.kinds, &parts.thresholds, &parts.words, &mut file);
             assert_eq!(answer.length, file.len() as u64);
-            assert_eq!(parts_read(&file, n, d), parts);
+            assert_eq!(ffi::parts_read(&file, n, d), parts);
         }
     }
-}
-
-/// What reading fills, in slices just as long as it needs.
-fn parts_read(file: &[u8], n: usize, d: usize) -> Parts {
-    let mut parts =
-        Parts { signs: vec![9; d], kinds: vec![9; n], thresholds: vec![9; n], words: vec![9; n * d] };
-    let Parts { signs, kinds, thresholds, words } = &mut parts;
-    let answer = ffi::read(file, signs, kinds, thresholds, words);
-    assert_eq!((answer.number, answer.lines, answer.levels), (0, n as u64, d as u64));
-    parts
 }
 
 #[test]
@@ -214,7 +195,7 @@ fn what_was_read_is_written_back_in_the_new_layout() {
         for d in 1..=8 {
             let model = random::any_model(&mut random, n, d);
             let file = random::file(&mut random, &model);
-            let Parts { signs, kinds, thresholds, words } = parts_read(&file, n, d);
+            let Parts { signs, kinds, thresholds, words } = ffi::parts_read(&file, n, d);
             let mut back = vec![0xee; file_length(n, d)];
             let answer = ffi::write(n, d, &signs, &kinds, &thresholds, &words, &mut back);
             assert_eq!(answer.length, back.len() as u64);

@@ -1,5 +1,6 @@
 //! Idle lines, those without operands (request W2), in every operation: an "any" of none never holds, an "all" of none always does.
 
+use harness::lent::file_length;
 use harness::random::{self, full, Case, Random};
 use harness::reference::{Kind, Model, Operand};
 use harness::{ffi, Answer};
@@ -76,6 +77,12 @@ fn models_of_idle_lines_alone_in_every_operation() {
             assert_eq!(ffi::lent(&file, a, b, &u, &v), Answer::judged(set, leaves), "{u:?} {v:?} {model:?}");
             let built = ffi::built(&file, a, b);
             assert_eq!((built.number, built.set), (0, set), "{a} {b} {model:?}");
+
+            if 2 * n <= 64 {
+                let mut joined = vec![9; file_length(2 * n, d)];
+                assert_eq!(ffi::join(&file, &file, &mut joined).length, joined.len() as u64);
+                assert_eq!(joined, model.joined(&model).file());
+            }
 
             let mut page = vec![0; 41 * (n + 1)];
             assert_eq!(ffi::page(&file, &mut page).number, 0);

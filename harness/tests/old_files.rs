@@ -57,6 +57,10 @@ fn every_operation_answers_as_to_the_new_file() {
             assert_eq!(answer, Answer { length: new.len() as u64, ..Answer::default() });
             assert_eq!((&written[..new.len()], written[new.len()]), (&new[..], 9));
 
+            let mut joined = [vec![7; 4300], vec![7; 4300]];
+            let answers = [ffi::join(&old, &old, &mut joined[0]), ffi::join(&new, &new, &mut joined[1])];
+            assert_eq!((answers[0], &joined[0]), (answers[1], &joined[1]), "{model:?}");
+
             let xs: Vec<u64> = random.words(d).iter().map(|word| word & full(n)).collect();
             assert_eq!(ffi::query(&old, &xs), ffi::query(&new, &xs), "{xs:?} {model:?}");
             let (a, b) = random::bounds(&mut random, n);

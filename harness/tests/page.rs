@@ -2,7 +2,7 @@
 
 use harness::lent::{Lent, Seen};
 use harness::random::{self, full, Random, FILE_DAMAGES};
-use harness::reference::{page_text, put_page};
+use harness::reference::{page_text, put};
 use harness::{ffi, reference, root, Answer};
 
 /// Makes the page in a buffer of this length, by the engine and by the reference, and compares all they leave.
@@ -65,10 +65,10 @@ fn every_size_has_its_page() {
         for d in 1..=8 {
             let model = random::any_model(&mut random, n, d);
             let file = random::file(&mut random, &model);
-            let text = page_text(&model);
+            let text = page_text(&model).into_bytes();
             for extra in [0, random.between(1, 3000)] {
                 let length = page_length(n) + extra;
-                let answer = page_beside(&mut random, &file, length, |buffer| put_page(&text, buffer));
+                let answer = page_beside(&mut random, &file, length, |buffer| put(&text, buffer));
                 assert_eq!(answer, Answer { length: page_length(n) as u64, ..Answer::default() });
             }
         }
@@ -81,9 +81,9 @@ fn every_buffer_length_around_the_page() {
     for n in 1..=64 {
         let model = random::any_model(&mut random, n, 2);
         let file = random::file(&mut random, &model);
-        let (length, text) = (page_length(n), page_text(&model));
+        let (length, text) = (page_length(n), page_text(&model).into_bytes());
         for room in length.saturating_sub(90)..length + 45 {
-            let answer = page_beside(&mut random, &file, room, |buffer| put_page(&text, buffer));
+            let answer = page_beside(&mut random, &file, room, |buffer| put(&text, buffer));
             assert_eq!(answer.number, if room < length { 12 } else { 0 });
         }
     }

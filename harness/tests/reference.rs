@@ -1,6 +1,6 @@
 //! The reference's ways to one set against each other, and against document 01's numbers. The engine is not called.
 
-use harness::random::{self, full, Random, Written, FILE_DAMAGES, WRITTEN_DAMAGES};
+use harness::random::{self, full, Case, Random, Written, FILE_DAMAGES, WRITTEN_DAMAGES};
 use harness::reference::game::winning_lines;
 use harness::reference::model::{Model, Parts};
 use harness::reference::nested::nested;
@@ -163,6 +163,54 @@ fn a_dual_model_has_the_complement() {
         let outside_xs: Vec<Set> = xs.iter().map(|x| x.iter().map(|set| !set).collect()).collect();
         let (set, dual) = (case.model.query(&xs), case.model.dual().query(&outside_xs));
         assert_eq!(word_of(&set) ^ word_of(&dual), full(n), "{xs:?} {case:?}");
+    }
+}
+
+#[test]
+fn a_joined_models_set_is_both_sets_side_by_side() {
+    let mut random = Random::new(112);
+    let mut between = 0;
+    for _ in 0..2000 {
+        let d = random.between(1, 4);
+        let (n, m) = (random.between(1, 6 / d), random.between(1, 6 / d));
+        let models = random::models_alike(&mut random, [n, m], d);
+        let joined = models[0].joined(&models[1]);
+        let cases = models.map(|model| {
+            let bounds = random::bounds(&mut random, model.lines());
+            Case::new(&mut random, model, bounds)
+        });
+        let [(a, b), (c, e)] = cases.each_ref().map(Case::bounds);
+        let sets = [nested(&cases[0].model, &a, &b), nested(&cases[1].model, &c, &e)];
+        let bounds = ([&a[..], &c].concat(), [&b[..], &e].concat());
+        let both = sets.concat();
+        assert_eq!(nested(&joined, &bounds.0, &bounds.1), both, "{cases:?}");
+        assert_eq!(winning_lines(&joined, &bounds.0, &bounds.1), both, "game {cases:?}");
+        assert_eq!(over_built_in_trees(&joined, &bounds.0, &bounds.1).0, both, "trees {cases:?}");
+        between += (both != bounds.0 && both != bounds.1) as usize;
+
+        let [xs, ys] = [n, m].map(|n| arguments(&mut random, n, d));
+        let side_by_side: Vec<Set> = xs.iter().zip(&ys).map(|(x, y)| [&x[..], y].concat()).collect();
+        let expected = [cases[0].model.query(&xs), cases[1].model.query(&ys)].concat();
+        assert_eq!(joined.query(&side_by_side), expected, "{side_by_side:?} {cases:?}");
+    }
+    assert!(between > 500, "only {between} sets strictly between their bounds");
+}
+
+#[test]
+fn a_joined_file_has_the_words_of_both_the_seconds_shifted() {
+    let mut random = Random::new(113);
+    for n in 1..=63 {
+        let (m, d) = (random.between(1, 64 - n), random.between(1, 8));
+        let models = random::models_alike(&mut random, [n, m], d);
+        let [first, second] = models.each_ref().map(Model::parts);
+        let shifted = second.words.iter().map(|word| word << n);
+        let expected = Parts {
+            signs: first.signs,
+            kinds: [first.kinds, second.kinds].concat(),
+            thresholds: [first.thresholds, second.thresholds].concat(),
+            words: first.words.into_iter().chain(shifted).collect(),
+        };
+        assert_eq!(models[0].joined(&models[1]).parts(), expected, "{models:?}");
     }
 }
 

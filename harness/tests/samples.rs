@@ -34,6 +34,21 @@ fn qs() -> [Vec<u8>; 2] {
     })
 }
 
+/// P joined with itself: lines 2 and 3 read lines 3 and 2, as lines 0 and 1 read lines 1 and 0.
+const TWO_PS: [u8; 90] = [
+    4, 0, 2, 0, 0x10, 0, 0, 0, 0x12, 0, 0, 0, 0x1a, 0, 0, 0, // header
+    0, 1, // signs
+    1, 0, 0, 0, 1, 0, 0, 0, // kinds, each with its threshold
+    2, 0, 0, 0, 0, 0, 0, 0, // line 0, level 1
+    0, 0, 0, 0, 0, 0, 0, 0, // line 0, level 2
+    0, 0, 0, 0, 0, 0, 0, 0, // line 1, level 1
+    1, 0, 0, 0, 0, 0, 0, 0, // line 1, level 2
+    8, 0, 0, 0, 0, 0, 0, 0, // line 2, level 1
+    0, 0, 0, 0, 0, 0, 0, 0, // line 2, level 2
+    0, 0, 0, 0, 0, 0, 0, 0, // line 3, level 1
+    4, 0, 0, 0, 0, 0, 0, 0, // line 3, level 2
+];
+
 /// One line, any of itself, one level.
 fn one_line(greatest: bool) -> Vec<u8> {
     let operands = vec![vec![Operand { level: 0, line: 0 }]];
@@ -82,6 +97,33 @@ fn p_and_q_by_small_trees() {
         assert_eq!(ffi::lent(p, 0, 3, &[1], &[]), Answer::judged(3, 2));
         assert_eq!(ffi::lent(q, 0, 3, &[], &[]), Answer::judged(1, 1));
     }
+}
+
+#[test]
+fn p_is_joined() {
+    for (first, second) in ps().iter().flat_map(|first| ps().map(|second| (first.clone(), second))) {
+        let mut buffer = [7; 91];
+        assert_eq!(ffi::join(&first, &second, &mut buffer), Answer { length: 90, ..Answer::default() });
+        assert_eq!((&buffer[..90], buffer[90]), (&TWO_PS[..], 7));
+        let mut short = [7; 89];
+        assert_eq!(ffi::join(&first, &second, &mut short), Answer::refused(12));
+        assert_eq!(short, [7; 89]);
+        assert_eq!(ffi::join(&first, &qs()[0], &mut buffer), Answer::refused(15));
+    }
+    assert_eq!(ffi::plain(&TWO_PS, 0, 15, 1_000_000), Answer::judged(15, 3));
+    assert_eq!(ffi::built(&TWO_PS, 0, 15), Answer::judged(15, 16));
+}
+
+#[test]
+fn cabinets_with_other_votes_side_by_side() {
+    // Of four lines each: two of three suffice in the first, all three are needed in the second.
+    let mut buffer = [0; 4248];
+    let answer = ffi::join(&three_pyrometers(2), &three_pyrometers(3), &mut buffer);
+    assert_eq!(answer, Answer { length: 16 + 1 + 16 + 64, ..Answer::default() });
+    let file = &buffer[..answer.length as usize];
+    assert_eq!(ffi::plain(file, 0, 255, 10), Answer::judged(11 + 16 * 3, 3));
+    assert_eq!(ffi::built(file, 0, 255), Answer::judged(11 + 16 * 3, 8));
+    assert_eq!(ffi::join(&three_pyrometers(4), &three_pyrometers(0), &mut []), Answer::refused(14));
 }
 
 #[test]

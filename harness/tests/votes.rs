@@ -354,6 +354,7 @@ fn a_misfit_is_looked_for_after_stray_lines_and_before_what_an_operation_adds() 
         assert_eq!(ffi::lent(&file, a, b, &[0], &[0]), misfit);
         assert_eq!(ffi::lent(&file, 0, full(n), &[0], &[0]), misfit);
         assert_eq!(ffi::page(&file, &mut []), misfit);
+        assert_eq!(ffi::join(&file, &file, &mut []), misfit);
 
         let mut stray = file.clone();
         random::damage_file(&mut random, &mut stray, n, d, 7);

@@ -84,9 +84,6 @@ module _ (file : List ℕ) (a b : ℕ) where
 well-placed : (n : ℕ) → misplaced n 0 (full n) ≡ false
 well-placed n = ap₂ (λ (s t : Bool). not s || (not t || not s)) (le-within 0 (full n) (empty-least (full n))) (le-within (full n) (full n) (refl⊑ (full n)))
 
-pub whole-range : (n : ℕ) → Range (sets n) 0 (full n)
-whole-range n = in-range n 0 (full n) (well-placed n)
-
 -- so what is turned down between them is the file
 pub never-misplaced : (file : List ℕ) → boundNumber file 0 (full (linesIn file)) ≡ fileNumber file
 unfolding boundNumber fileNumber

@@ -11,7 +11,7 @@ use borrow.Author.Tests.{ltb-true, ltb-false, eqb-true, eqb-false, eq-eqb, not-f
 use Rattle.answers.specs.Answer.{Answer, refusal, numberOf}
 use Rattle.answers.specs.Check.{Check, firstOf, unless, outside}
 use Rattle.answers.specs.declared.Refusal.{Refusal}
-use Rattle.answers.specs.declared.Refusal.the-variants.{HeaderShort, Lines, Levels, Offset, FileLength, SignOrKind, StraySelection, Bounds, Ceiling, Tree, Room, SliceLength, Threshold}
+use Rattle.answers.specs.declared.Refusal.the-variants.{HeaderShort, Lines, Levels, Offset, FileLength, SignOrKind, StraySelection, Bounds, Ceiling, Tree, Room, SliceLength, Threshold, LevelsDiffer}
 
 -- none of the checks applies
 abbrev pub Passes : List Check → Type 0
@@ -103,6 +103,7 @@ number-positive Tree = lit< tt
 number-positive Room = lit< tt
 number-positive SliceLength = lit< tt
 number-positive Threshold = lit< tt
+number-positive LevelsDiffer = lit< tt
 
 -- 8 is the number of no refusal (request W2)
 pub eight-retired : (r : Refusal) → numberOf r ≡ 8 → ⊥
@@ -119,3 +120,4 @@ eight-retired Tree h = omega arith
 eight-retired Room h = omega arith
 eight-retired SliceLength h = omega arith
 eight-retired Threshold h = omega arith
+eight-retired LevelsDiffer h = omega arith

@@ -3,9 +3,9 @@
 -- Assumes nothing.
 use Prim.Native.Nat.{ℕ}
 use Rattle.answers.specs.declared.Refusal.{Refusal}
-use Rattle.answers.specs.declared.Refusal.the-variants.{HeaderShort, Lines, Levels, Offset, FileLength, SignOrKind, StraySelection, Bounds, Ceiling, Tree, Room, SliceLength, Threshold}
+use Rattle.answers.specs.declared.Refusal.the-variants.{HeaderShort, Lines, Levels, Offset, FileLength, SignOrKind, StraySelection, Bounds, Ceiling, Tree, Room, SliceLength, Threshold, LevelsDiffer}
 
--- document 01's number of a refusal; 8 is retired (request W2), 14 is of request W4
+-- document 01's number of a refusal; 8 is retired (request W2), 14 is of request W4 and 15 of W6
 abbrev pub numberOf : Refusal → ℕ
 numberOf HeaderShort = 1
 numberOf Lines = 2
@@ -20,6 +20,7 @@ numberOf Tree = 11
 numberOf Room = 12
 numberOf SliceLength = 13
 numberOf Threshold = 14
+numberOf LevelsDiffer = 15
 
 pub record Answer : Type 0 where
   -- 0 where the operation accepts, else the number with which it refuses

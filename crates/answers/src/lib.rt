@@ -27,6 +27,8 @@ pub enum Refusal {
     SliceLength,
     // A threshold on a line that is no vote, or a vote that needs nothing or more operands than it has (request W4).
     Threshold,
+    // Two models to be joined whose levels or signs differ (request W6).
+    LevelsDiffer,
 }
 
 pub fn number(r: Refusal) -> u64
@@ -46,5 +48,6 @@ pub fn number(r: Refusal) -> u64
         Refusal::Room => 12,
         Refusal::SliceLength => 13,
         Refusal::Threshold => 14,
+        Refusal::LevelsDiffer => 15,
     }
 }

@@ -14,9 +14,9 @@ use Rattle.model.specs.File.{linesIn, decode}
 use Rattle.checker.specs.Checks.{fileNumber}
 use Rattle.checker.proofs.Accepted.{accepted}
 use Rattle.admission.specs.Checks.{boundChecks, boundNumber}
-use Rattle.admission.proofs.Admitted.{whole-range, never-misplaced}
+use Rattle.admission.proofs.Admitted.{never-misplaced}
 use Rattle.routes.specs.Routes.{builtLeast, builtGreatest, nestedSet}
-use Rattle.routes.proofs.Promises.{built-nested, restricted-inside}
+use Rattle.routes.proofs.Promises.{whole-range, built-nested, restricted-inside}
 use Rattle.solver.specs.Checks.{builtNumber}
 use Rattle.solver.specs.Says.{builtAnswer}
 use Rattle.page_layout.specs.Page.{page}

@@ -11,11 +11,14 @@ use native.Mathlib.Nat.{min-eq-left}
 use native.Mathlib.Omega.{arith}
 use lib.Dec.{ltb}
 use lib.ListN.{length, getD, length-drop, List·getD-eq-default}
+use lib.Pow.{pow-pos}
 use lib.Seq.{length-take-le}
 use borrow.Author.Tests.{ltb-false, not-false}
 use Rattle.answers.specs.Check.{Check, firstOf}
 use Rattle.answers.proofs.Checks.{Passes, passes-both, none-first, after-none, inside}
+use Rattle.lists.proofs.Below.{below-entries}
 use Rattle.system.specs.Query.{VotesNeed}
+use Rattle.system.specs.Joined.{WellFormed}
 use Rattle.model.specs.File.{kindsAt, linesIn, levelsIn, wordsIn, lineBytes, highestKind, sections, decode}
 use Rattle.model.specs.Checks.{some, strays, misfits, thresholdMisfits}
 use Rattle.model.specs.Held.{LaidOut, Held}
@@ -109,6 +112,24 @@ accepted file h =
             | yes l ↦ vote-needs _ _ _ (false-below (thresholdMisfits system) (linesIn file) (content .1 .1 .0) i l) vote
             | no g ↦ absurd (omega (arith, List·getD-eq-default (system .kinds) 0 {n = i} (omega (arith, count-kinds file))))
           ];
+    }
+
+-- Its system is well-formed.
+pub formed : (file : List ℕ) → Accepted file → WellFormed (decode file)
+unfolding decode
+formed file ok =
+    record {
+      sliced = record {
+        signs-long = count-signs (ok .header);
+        kinds-long = count-kinds file;
+        thresholds-long = count-thresholds file;
+        words-long = count-words file;
+      };
+      words-within = below-entries (decode file .words) (λ j.
+          elim (decLt j (linesIn file * levelsIn file)) [
+            | yes l ↦ ok .words j l
+            | no g ↦ rw (List·getD-eq-default (decode file .words) 0 {n = j} (omega (arith, count-words file))) (pow-pos (linesIn file))
+          ]);
     }
 
 -- the system of the counts that are handed back, and what is asked of them wherever the file is used

@@ -10,7 +10,7 @@ use numbers::put_number;
 use numbers::put_words;
 
 // The sixteen bytes of the header, in front of what the slice holds behind them.
-fn put_header(s: &mut [u8], m: Model)
+pub fn put_header(s: &mut [u8], m: Model)
     requires { ⌜ (m .lines ≤ 64) × (m .levels ≤ 8) ⌝ }
     requires { ⌜ 16 ≤ length (now s) ⌝ }
     ensures { λ _. ⌜ now (s .exit) ≡ headerBytes (m .lines) (m .levels) ++ drop 16 (now (s .entry)) ⌝ }

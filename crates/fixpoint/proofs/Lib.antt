@@ -10,3 +10,5 @@ pub mod Universal
 pub mod Queries
 pub mod Plain
 pub mod Sets
+pub mod Paired
+pub mod SideBySide

@@ -5,3 +5,4 @@ pub mod Nested
 pub mod Restricted
 pub mod Plain
 pub mod Sets
+pub mod Pairing

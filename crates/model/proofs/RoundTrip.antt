@@ -9,20 +9,14 @@ use native.Mathlib.Omega.{arith}
 use borrow.Author.Tests.{ne-eqb}
 use lib.ListN.{length, take, drop, length-append, length-drop}
 use lib.Seq.{take-add, take-all, take-at, drop-at, drop-drop}
-use Rattle.system.specs.System.{System}
+use Rattle.system.specs.System.{System, Sliced}
 use Rattle.model.specs.File.{signsAt, kindsAt, wordsAt, oldWordsAt, fileLength, linesIn, levelsIn, wordsIn, isOld, lineBytes, every, thresholdsFrom, sections, decode, headerBytes, lineRecords, encode}
 use Rattle.numbers.specs.Numbers.{little, numberAt, bytesOf, wordsFrom, wordBytes}
-use Rattle.numbers.proofs.Below.{AllBelow, below-drop}
+use Rattle.lists.specs.Below.{AllBelow}
+use Rattle.lists.proofs.Below.{below-drop}
 use Rattle.numbers.proofs.Codec.{little-bytes, number-bytes, word-bytes-length, words-of-bytes, bytes-of-words}
 
--- a system whose slices are as long as its counts say
-pub record Sliced (m : System) : Type 0 where
-  pub signs-long : length (m .signs) ≡ m .levels
-  pub kinds-long : length (m .kinds) ≡ m .lines
-  pub thresholds-long : length (m .thresholds) ≡ m .lines
-  pub words-long : length (m .words) ≡ m .lines * m .levels
-
--- and whose counts and words a file can hold
+-- a system whose slices, counts and words a file can hold
 pub record Fitting (m : System) : Type 0 where
   pub lines-some : 1 ≤ m .lines
   pub lines-few : m .lines ≤ 64

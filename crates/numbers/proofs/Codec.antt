@@ -11,8 +11,9 @@ use lib.Dec.{lit<}
 use lib.ListN.{length, getD, take, drop, length-append, length-take, length-drop}
 use lib.Seq.{take-suc, take-add, drop-drop, take-at, drop-at, length-take-le}
 use Rattle.numbers.specs.Numbers.{little, numberAt, bytesOf, wordsFrom, wordBytes}
+use Rattle.lists.specs.Below.{AllBelow, none, more}
 use Rattle.lists.proofs.Front.{rest-whole}
-use Rattle.numbers.proofs.Below.{AllBelow, none, more, below-take, below-drop}
+use Rattle.lists.proofs.Below.{below-take, below-drop}
 
 -- the bytes of a number
 

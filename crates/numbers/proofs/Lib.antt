@@ -1,3 +1,2 @@
 pub mod Little
-pub mod Below
 pub mod Codec

@@ -19,7 +19,7 @@ use Rattle.writer.specs.Says.{writeNumber, writtenAnswer, WriteSays}
 use Rattle.model.specs.Says.{sized, made, readingAnswer, filled}
 use Rattle.model.specs.declared.layout.Reading.{Reading}
 use Rattle.writer.specs.declared.Written.{Written}
-use Rattle.numbers.proofs.Below.{AllBelow}
+use Rattle.lists.specs.Below.{AllBelow}
 use Rattle.model.proofs.Refusals.{none-of}
 use Rattle.model.proofs.RoundTrip.{oldIn, encode-length, encode-lines, encode-levels}
 use Rattle.checker.proofs.Accepted.{after-file}

@@ -12,16 +12,17 @@ use borrow.Author.Tests.{ltb-false, le-ltb}
 use lib.Dec.{ltb}
 use lib.ListN.{length, getD}
 use Rattle.answers.proofs.Checks.{Passes, inside}
-use Rattle.system.specs.System.{System}
+use Rattle.system.specs.System.{System, Sliced}
 use Rattle.model.specs.File.{fileLength, wordsIn, highestKind, decode, encode}
 use Rattle.model.specs.Checks.{some, contentChecks}
 use Rattle.checker.specs.Checks.{fileNumber}
 use Rattle.writer.specs.Says.{writeNumber}
-use Rattle.numbers.proofs.Below.{AllBelow, below-drop}
+use Rattle.lists.specs.Below.{AllBelow}
+use Rattle.lists.proofs.Below.{below-drop}
 use Rattle.numbers.proofs.Codec.{words-below}
 use Rattle.model.proofs.Searches.{some-false, false-some}
-use Rattle.model.proofs.RoundTrip.{Sliced, Fitting, oldIn, encode-lines, encode-levels, encode-new, encode-laid, decode-encode, encode-decode}
-use Rattle.checker.proofs.Accepted.{accepted, count-signs, count-kinds, count-thresholds, count-words}
+use Rattle.model.proofs.RoundTrip.{Fitting, oldIn, encode-lines, encode-levels, encode-new, encode-laid, decode-encode, encode-decode}
+use Rattle.checker.proofs.Accepted.{accepted, formed}
 use Rattle.checker.proofs.Passed.{file-passes, passes-file}
 use Rattle.writer.proofs.Passed.{newChecks, write-passes, passes-write}
 
@@ -77,14 +78,7 @@ passes-new false m h = h
 module _ (file : List ℕ) (none : fileNumber file ≡ 0) where
   -- The slices of the system that it stands for have the right lengths,
   pub read-sliced : Sliced (decode file)
-  unfolding decode
-  read-sliced =
-      record {
-        signs-long = count-signs (accepted file none .header);
-        kinds-long = count-kinds file;
-        thresholds-long = count-thresholds file;
-        words-long = count-words file;
-      }
+  read-sliced = formed file (accepted file none) .sliced
 
   -- and that system may be written into any buffer that is long enough for its file.
   pub read-writable : (room : ℕ) → fileLength (decode file .lines) (decode file .levels) ≤ room → writeNumber (decode file) room ≡ 0

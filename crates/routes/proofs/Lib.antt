@@ -5,4 +5,5 @@ pub mod ChildrenPassed
 pub mod InnermostLevels
 pub mod QueryBound
 pub mod Promises
+pub mod Joined
 pub mod WithoutOperands

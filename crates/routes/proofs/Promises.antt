@@ -5,6 +5,9 @@ use mathlib.Core.List.{List, []}
 use mathlib.Core.Path.{_≡_, sym, _∙_, ap₂}
 use Prim.Native.Nat.{ℕ, zero, suc, _*_, _≤_, _<_}
 use native.Mathlib.Omega.{arith}
+use lib.Pow.{ones-lt}
+use Rattle.sets.specs.Set.{full}
+use Rattle.sets.proofs.Order.{empty-least}
 use Rattle.trees.specs.Tree.{IsTree, leaves}
 use Rattle.trees.specs.Fit.{Universal}
 use Rattle.trees.specs.Built.{built, leafCount}
@@ -13,12 +16,16 @@ use Rattle.trees.proofs.Universal.{built-universal}
 use Rattle.fixpoint.specs.Lawful.{Range, Between}
 use Rattle.fixpoint.specs.Sets.{sets}
 use Rattle.fixpoint.proofs.Queries.{queries-product}
-use Rattle.fixpoint.proofs.Sets.{universal-nested, plain-nested, plain-enough, restricted-between, plain-between}
+use Rattle.fixpoint.proofs.Sets.{sets-range, universal-nested, plain-nested, plain-enough, restricted-between, plain-between}
 use Rattle.system.specs.System.{System, sign}
 use Rattle.system.specs.Query.{query}
 use Rattle.system.proofs.Monotone.{query-monotone}
 use Rattle.routes.specs.Routes.{leastLevels, greatestLevels, builtLeast, builtGreatest, nestedSet, plainRun, restrictedSet, restrictedCount}
 use Rattle.routes.specs.Parts.{plainFrom}
+
+-- no line and all lines are bounds
+pub whole-range : (n : ℕ) → Range (sets n) 0 (full n)
+whole-range n = sets-range n 0 (full n) (empty-least (full n)) (ones-lt n)
 
 -- The queries over two trees of the right heights, and over the built-in trees for any numbers of lines.
 pub lent-product : (s : System) (u v : List ℕ) → IsTree (leastLevels s) u → IsTree (greatestLevels s) v → restrictedCount s u v ≡ leaves u * leaves v

@@ -3,3 +3,4 @@ pub mod Range
 pub mod Members
 pub mod Extreme
 pub mod Membership
+pub mod SideBySide

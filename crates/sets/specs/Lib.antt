@@ -1,2 +1,3 @@
 pub mod Set
+pub mod SideBySide
 pub mod Extreme

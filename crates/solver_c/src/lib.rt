@@ -5,6 +5,7 @@ ghost use Rattle.trees.specs.Count.{leafCountAnswer};
 ghost use Rattle.system.specs.System.{systemOf};
 ghost use Rattle.reader.specs.Says.{readAnswer, ReadLeaves};
 ghost use Rattle.writer.specs.Says.{writeAnswer, WriteLeaves};
+ghost use Rattle.joiner.specs.Says.{joinAnswer, JoinLeaves};
 ghost use Rattle.solver.specs.Says.{queryAnswer, plainAnswer, builtAnswer, lentAnswer};
 ghost use Rattle.bench_page.specs.Says.{pageAnswer, PageLeaves};
 ghost use Rattle.answer_c.specs.Words.{sixWords};
@@ -93,6 +94,14 @@ pub extern "C" fn solver_page(file: &[u8], buffer: &mut [u8], answer: &mut [u64;
     ensures { λ _. ⌜ PageLeaves (now (file .entry)) (now (buffer .entry)) (now (buffer .exit)) ⌝ }
 {
     put_paged(answer, bench_page::make_page(file, buffer));
+}
+
+#[no_mangle]
+pub extern "C" fn solver_join(first: &[u8], second: &[u8], buffer: &mut [u8], answer: &mut [u64; 6])
+    ensures { λ _. ⌜ now (answer .exit) ≡ sixWords (joinAnswer (now (first .entry)) (now (second .entry)) (length (now (buffer .entry)))) ⌝ }
+    ensures { λ _. ⌜ JoinLeaves (now (first .entry)) (now (second .entry)) (now (buffer .entry)) (now (buffer .exit)) ⌝ }
+{
+    put_written(answer, joiner::join(first, second, buffer));
 }
 
 #[no_mangle]

@@ -2,3 +2,6 @@ pub mod Monotone
 pub mod LineSets
 pub mod Masks
 pub mod WithoutOperands
+pub mod Selected
+pub mod JoinedLines
+pub mod Joined

@@ -3,9 +3,10 @@
 -- Assumes nothing.
 use mathlib.Core.Bool.{Bool}
 use mathlib.Core.List.{List}
-use Prim.Native.Nat.{ℕ}
+use mathlib.Core.Path.{_≡_}
+use Prim.Native.Nat.{ℕ, _*_}
 use lib.Dec.{eqb}
-use lib.ListN.{getD}
+use lib.ListN.{length, getD}
 
 pub record System : Type 0 where
   pub lines : ℕ
@@ -25,3 +26,10 @@ systemOf n d signs kinds thresholds words = record { lines = n; levels = d; sign
 -- whether level k + 1 is greatest
 abbrev pub sign : System → ℕ → Bool
 sign m k = eqb (getD (m .signs) k 0) 1
+
+-- a system whose slices are as long as its counts say
+pub record Sliced (m : System) : Type 0 where
+  pub signs-long : length (m .signs) ≡ m .levels
+  pub kinds-long : length (m .kinds) ≡ m .lines
+  pub thresholds-long : length (m .thresholds) ≡ m .lines
+  pub words-long : length (m .words) ≡ m .lines * m .levels

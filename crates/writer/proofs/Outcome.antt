@@ -6,14 +6,14 @@ use Prim.Native.Nat.{ℕ}
 use lib.ListN.{length, drop}
 use Rattle.answers.specs.Check.{unless}
 use Rattle.answers.specs.declared.Refusal.{Refusal}
-use Rattle.system.specs.System.{System, systemOf}
+use Rattle.system.specs.System.{System, systemOf, Sliced}
 use Rattle.model.specs.File.{fileLength, encode}
 use Rattle.writer.specs.Says.{writeNumber, WriteSays}
 use Rattle.model.specs.Says.{made, filled}
 use Rattle.model.specs.declared.layout.Model.{Model}
 use Rattle.writer.specs.declared.Written.the-variants as written
 use Rattle.model.proofs.Refusals.{AcceptedAs, RefusedAs, refused-answer, filled-refused}
-use Rattle.model.proofs.RoundTrip.{Sliced, encode-length}
+use Rattle.model.proofs.RoundTrip.{encode-length}
 
 pub write-refused : (m : System) (buffer : List ℕ) (r : Refusal) → RefusedAs (writeNumber m (length buffer)) r → WriteSays m buffer (written.Refused r) buffer
 write-refused m buffer r h = record { answer = refused-answer h (made _); left = filled-refused (encode m) buffer (h .positive) }

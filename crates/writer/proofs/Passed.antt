@@ -8,11 +8,10 @@ use lib.Dec.{ltb}
 use borrow.Author.Tests.{ltb-false, le-ltb}
 use Rattle.answers.specs.Check.{Check, _if_}
 use Rattle.answers.proofs.Checks.{Passes, passes-both, passes-append, passes-none, none-first, same, unlike}
-use Rattle.system.specs.System.{System}
+use Rattle.system.specs.System.{System, Sliced}
 use Rattle.model.specs.File.{fileLength, highestKind}
 use Rattle.model.specs.Checks.{countChecks, contentChecks}
 use Rattle.writer.specs.Says.{sliceChecks, writeNumber}
-use Rattle.model.proofs.RoundTrip.{Sliced}
 
 pub sliced-passes : {m : System} → Sliced m → Passes (sliceChecks m)
 sliced-passes sliced = (unlike (sliced .signs-long), (unlike (sliced .kinds-long), (unlike (sliced .thresholds-long), (unlike (sliced .words-long), tt))))

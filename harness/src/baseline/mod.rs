@@ -1,11 +1,13 @@
-//! The three routes and the bench page in safe Rust over the same bytes as the engine, with the same checks. The benchmark compares their speed with the
-//! engine's. They prove nothing and are no reference.
+//! The three routes, the bench page and joining in safe Rust over the same bytes as the engine, with the same checks. The benchmark
+//! compares their speed with the engine's. They prove nothing and are no reference.
 //!
 //! - `whole`: a whole query at each leaf, and the recursion of document 01.
 //! - `by_levels`: the engine's own algorithm.
 //! - `page`: the bench page.
+//! - `join`: the joined file.
 
 pub mod by_levels;
+pub mod join;
 pub mod page;
 pub mod whole;
 
@@ -78,7 +80,7 @@ impl<'a> Model<'a> {
         }
         let largest_kind = if record == 1 { ALL } else { VOTE };
         let over = |i: usize| model.kind(i) > largest_kind;
-        if file[SIGNS_AT..model.kinds_at()].iter().any(|&sign| sign > 1) || (0..lines).any(over) {
+        if model.signs().iter().any(|&sign| sign > 1) || (0..lines).any(over) {
             return Err(6);
         }
         let word = |at: usize| u64_at(file, model.words_at() + 8 * at);
@@ -124,6 +126,10 @@ impl<'a> Model<'a> {
         } else {
             self.file[self.kinds_at() + 2 * i + 1]
         }
+    }
+
+    fn signs(self) -> &'a [u8] {
+        &self.file[SIGNS_AT..self.kinds_at()]
     }
 
     fn is_greatest(self, level: usize) -> bool {

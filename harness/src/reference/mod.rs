@@ -12,6 +12,6 @@ pub mod tree;
 pub mod votes;
 
 pub use model::{set_of, word_of, Kind, Model, Operand, Set};
-pub use operations::{built, judgeable, leaf_count, lent, plain, query, read, write};
-pub use page::{page, page_text, put_page, share};
+pub use operations::{built, join, judgeable, leaf_count, lent, plain, put, query, read, write};
+pub use page::{page, page_text, share};
 pub use tree::Tree;

@@ -122,6 +122,17 @@ impl Model {
         }
     }
 
+    /// This model's lines and behind them those of another one, which has its signs.
+    pub fn joined(&self, other: &Model) -> Model {
+        let behind = |o: &Operand| Operand { level: o.level, line: self.lines() + o.line };
+        let mut joined = self.clone();
+        for (&kind, operands) in other.kinds.iter().zip(&other.operands) {
+            joined.kinds.push(kind);
+            joined.operands.push(operands.iter().map(behind).collect());
+        }
+        joined
+    }
+
     pub fn parts(&self) -> Parts {
         let mut words = vec![0; self.lines() * self.levels()];
         for (i, operands) in self.operands.iter().enumerate() {

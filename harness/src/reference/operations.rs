@@ -72,15 +72,38 @@ pub fn write(
         thresholds: thresholds.to_vec(),
         words: words.to_vec(),
     };
-    let file = match Model::from_parts(n, d, &parts) {
-        Ok(model) => model.file(),
-        Err(number) => return Answer::refused(number),
-    };
-    if buffer.len() < file.len() {
+    match Model::from_parts(n, d, &parts) {
+        Ok(model) => put(&model.file(), buffer),
+        Err(number) => Answer::refused(number),
+    }
+}
+
+/// Puts bytes into a lent buffer, or refusal 12.
+pub fn put(bytes: &[u8], buffer: &mut [u8]) -> Answer {
+    if buffer.len() < bytes.len() {
         return Answer::refused(12);
     }
-    buffer[..file.len()].copy_from_slice(&file);
-    Answer { length: file.len() as u64, ..Answer::default() }
+    buffer[..bytes.len()].copy_from_slice(bytes);
+    Answer { length: bytes.len() as u64, ..Answer::default() }
+}
+
+/// The joined model of two files, or the first of refusals 1 to 7 and 14 of each, 15 and 2.
+fn joinable(first: &[u8], second: &[u8]) -> Result<Model, u64> {
+    let (first, second) = (Model::from_file(first)?, Model::from_file(second)?);
+    if first.greatest != second.greatest {
+        return Err(15);
+    }
+    if first.lines() + second.lines() > 64 {
+        return Err(2);
+    }
+    Ok(first.joined(&second))
+}
+
+pub fn join(first: &[u8], second: &[u8], buffer: &mut [u8]) -> Answer {
+    match joinable(first, second) {
+        Ok(model) => put(&model.file(), buffer),
+        Err(number) => Answer::refused(number),
+    }
 }
 
 pub fn query(file: &[u8], arguments: &[u64]) -> Answer {

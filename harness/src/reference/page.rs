@@ -2,6 +2,7 @@
 
 use super::game::winning_lines;
 use super::model::{set_of, Kind, Model};
+use super::operations::put;
 use crate::random::full;
 use crate::Answer;
 
@@ -31,16 +32,7 @@ pub fn page_text(model: &Model) -> String {
 
 pub fn page(file: &[u8], buffer: &mut [u8]) -> Answer {
     match Model::from_file(file) {
-        Ok(model) => put_page(&page_text(&model), buffer),
+        Ok(model) => put(page_text(&model).as_bytes(), buffer),
         Err(number) => Answer::refused(number),
     }
-}
-
-/// The same of a file that is not refused and whose page has this text.
-pub fn put_page(text: &str, buffer: &mut [u8]) -> Answer {
-    if buffer.len() < text.len() {
-        return Answer::refused(12);
-    }
-    buffer[..text.len()].copy_from_slice(text.as_bytes());
-    Answer { length: text.len() as u64, ..Answer::default() }
 }

@@ -1,28 +1,17 @@
 -- `encoder::put_lines` meets its contract: after i lines the slice begins with their two bytes each, and the rest is as it was.
 -- Assumes nothing.
-use mathlib.Core.List.{List, [], _∷_, _++_, append-assoc}
-use mathlib.Core.Path.{_≡_, refl, sym, _∙_, ap, ap₂}
-use Prim.Native.Nat.{ℕ, zero, suc, _+_, _-_, _*_, _≤_, _<_, zero-le}
-use native.Mathlib.Numerals.{add-one}
+use mathlib.Core.List.{List, _++_}
+use mathlib.Core.Path.{_≡_, refl, _∙_, ap, ap₂}
+use Prim.Native.Nat.{ℕ, _-_, _*_, _≤_, zero-le}
 use native.Mathlib.Omega.{arith}
 use denote.Ref.{now}
 use borrow.Author.Needs.{needs}
-use lib.ListN.{length, getD, take, drop, length-append, length-set}
-use lib.Seq.{take-length, length-take-le}
+use lib.ListN.{length, take, drop, length-set}
+use lib.Seq.{take-length}
 use Rattle.model.specs.File.{lineRecords}
-use Rattle.model.proofs.RoundTrip.{records-length}
-use Rattle.lists.proofs.Front.{front-store}
+use Rattle.encoder.proofs.LineRecords.{records-stored}
 use Rattle.encoder.proofs.put_lines.Statement.{statement}
 use Rattle.encoder.proofs.put_lines.Tie as tie
-
--- the bytes of one more line
-records-more : (i : ℕ) (kinds thresholds : List ℕ) → i < length kinds
-    → lineRecords (take (suc i) kinds) thresholds ≡ lineRecords (take i kinds) thresholds ++ (getD kinds i 0 ∷ getD thresholds i 0 ∷ [])
-unfolding lineRecords
-records-more i [] ts h = absurd (omega arith)
-records-more zero (k ∷ ks) ts h = refl
-records-more (suc i) (k ∷ ks) [] h = ap (λ (s : List ℕ). k ∷ 0 ∷ s) (records-more i ks [] (omega arith))
-records-more (suc i) (k ∷ ks) (t ∷ ts) h = ap (λ (s : List ℕ). k ∷ t ∷ s) (records-more i ks ts (omega arith))
 
 abbrev Inv-loop : tie.InvT-loop
 Inv-loop s₀ kinds thresholds i₀ s i = (i ≤ length kinds) × (s ≡ lineRecords (take i kinds) thresholds ++ drop (2 * i) s₀) × (length s ≡ length s₀)
@@ -66,21 +55,9 @@ loop-again c =
     let at-loop-test = c .before .before in
     let at-loop = at-loop-test .before in
     let start = at-loop .before in
-    let s = now (start .args .s) in
-    let kinds = now (start .args .kinds) in
-    let thresholds = now (start .args .thresholds) in
-    let i = at-loop .loop .i in
-    let inv = at-loop .loop .inv in
-    let front = lineRecords (take i kinds) thresholds in
-    let kind = getD kinds i 0 in
-    let threshold = getD thresholds i 0 in
-    let written : length front ≡ 2 * i = omega (arith, records-length (take i kinds) thresholds, length-take-le i kinds (inv .0)) in
-    let more : lineRecords (take (i + 1) kinds) thresholds ≡ front ++ (kind ∷ threshold ∷ []) = rw add-one (records-more i kinds thresholds (at-loop-test .loop-test .taken)) in
-    let next : 2 * i + 1 + 1 ≡ 2 * (i + 1) = omega arith in (
+    let inv = at-loop .loop .inv in (
       omega arith,
-      front-store (front ++ (kind ∷ [])) s _ (2 * i + 1) threshold (omega (arith, length-append front (kind ∷ []))) (omega arith)
-          (front-store front s (at-loop .loop .s) (2 * i) kind written (omega arith) (inv .1))
-          ∙ ap₂ (λ (bs : List ℕ) (n : ℕ). bs ++ drop n s) (append-assoc front (kind ∷ []) (threshold ∷ []) ∙ sym more) next,
+      records-stored (now (start .args .kinds)) (now (start .args .thresholds)) (now (start .args .s)) (at-loop .loop .s) (at-loop .loop .i) _ _ (at-loop-test .loop-test .taken) (start .pre .1) refl refl (inv .1),
       simp length-set (inv .2),
     )
 

@@ -14,7 +14,7 @@ use Rattle.answers.specs.Check.{firstOf}
 use Rattle.answers.proofs.Checks.{Passes, first-after, none-first, inside}
 use Rattle.answers.specs.declared.Refusal.{Refusal}
 use Rattle.answers.specs.declared.Refusal.the-variants.{SignOrKind, StraySelection, Room, SliceLength, Threshold}
-use Rattle.system.specs.System.{System, systemOf}
+use Rattle.system.specs.System.{System, systemOf, Sliced}
 use Rattle.model.specs.File.{fileLength}
 use Rattle.model.specs.Checks.{some, someBelow, strays, thresholdMisfits, countChecks}
 use Rattle.writer.specs.Says.{sliceChecks, writeNumber, WriteSays}
@@ -22,7 +22,6 @@ use Rattle.model.specs.declared.layout.Model.{Model}
 use Rattle.writer.specs.declared.Written.the-variants as written
 use Rattle.model.proofs.Sizes.{few-words}
 use Rattle.model.proofs.Refusals.{AcceptedAs, accepted-as, refused-as, refused-by, refused-before}
-use Rattle.model.proofs.RoundTrip.{Sliced}
 use Rattle.writer.proofs.Passed.{newChecks, bufferChecks, fromContents, fromSlices, sliced-passes, passes-write}
 use Rattle.writer.proofs.Outcome.{write-refused, write-accepted}
 use Rattle.writer.proofs.write.Statement.{statement}
