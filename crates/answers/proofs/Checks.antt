@@ -7,7 +7,7 @@ use mathlib.Core.Path.{_≡_, refl, ap}
 use Prim.Native.Nat.{ℕ, zero, suc, _≤_, _<_}
 use native.Mathlib.Omega.{arith}
 use lib.Dec.{eqb, ltb, lit<}
-use borrow.Author.Tests.{ltb-true, ltb-false, eqb-true, eqb-false, eq-eqb, not-false}
+use borrow.Author.Tests.{ltb-true, ltb-false, le-ltb, eqb-true, eqb-false, eq-eqb, ne-eqb, not-false}
 use Rattle.answers.specs.Answer.{Answer, refusal, numberOf}
 use Rattle.answers.specs.Check.{Check, firstOf, unless, outside}
 use Rattle.answers.specs.declared.Refusal.{Refusal}
@@ -76,6 +76,9 @@ inside most n h =
     let both = neither (eqb n 0) (ltb most n) .0 h in
     let nonzero : n ≡ 0 → ⊥ = eqb-false n 0 (both .0) in
     (omega arith, ltb-false most n (both .1))
+
+pub not-outside : {most n : ℕ} → 0 < n → n ≤ most → outside most n ≡ false
+not-outside {most} {n} some few = rw (ne-eqb n 0 (λ z. omega arith), le-ltb most n few)
 
 -- a test for two numbers that differ
 pub same : {a b : ℕ} → not (eqb a b) ≡ false → a ≡ b

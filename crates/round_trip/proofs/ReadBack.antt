@@ -42,7 +42,7 @@ file-right file s k t w h =
     passes-none (fileChecks file) (passes-both (fileChecks file) (roomChecks file s k t w) (none-first (fileChecks file ++ roomChecks file s k t w) refl h) .0)
 
 -- the front of a lent list after an operation that was not refused
-filled-front : {new left : List ℕ} {e n : ℕ} (old : List ℕ) → left ≡ filled e new old → e ≡ 0 → length new ≡ n → take n left ≡ new
+pub filled-front : {new left : List ℕ} {e n : ℕ} (old : List ℕ) → left ≡ filled e new old → e ≡ 0 → length new ≡ n → take n left ≡ new
 filled-front {new} {n = n} old says none long = ap (take n) (says ∙ ap (λ (e : ℕ). filled e new old) none) ∙ take-at new _ n long
 
 -- what a model's slices hold after reading

@@ -68,7 +68,7 @@ module _ (m : System) (room : ℕ) (none : writeNumber m room ≡ 0) (below : Al
 none-over : (xs : List ℕ) → some (ltb 1) xs ≡ false → some (ltb 2) xs ≡ false
 none-over xs h = some-false (ltb 2) xs (le-refl (length xs)) (λ i l. le-ltb 2 (getD xs i 0) (le-step (ltb-false 1 (getD xs i 0) (false-some (ltb 1) xs h i l))))
 
-passes-new : (old : Bool) (m : System) → Passes (contentChecks (highestKind old) m) → Passes (newChecks m)
+pub passes-new : (old : Bool) (m : System) → Passes (contentChecks (highestKind old) m) → Passes (newChecks m)
 passes-new true m h =
     let bytes = neither (some (ltb 1) (m .signs)) (some (ltb 1) (m .kinds)) .0 (h .0) in
     (rw (bytes .0) (none-over (m .kinds) (bytes .1)), h .1)

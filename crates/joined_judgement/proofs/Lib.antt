@@ -1,0 +1,2 @@
+pub mod JoinedFiles
+pub mod SideBySide
