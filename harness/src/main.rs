@@ -11,6 +11,7 @@ use std::time::Instant;
 use harness::baseline::join::join;
 use harness::baseline::page::page;
 use harness::baseline::{by_levels, whole};
+use harness::lent::file_length;
 use harness::random::{self, full, Density, Random};
 use harness::reference::{Kind, Model, Tree};
 use harness::{ffi, Answer};
@@ -387,6 +388,8 @@ fn print_pages(effort: Effort) {
 
 // ---- joining ----
 
+type Join = fn(&[u8], &[u8], &mut [u8]) -> Answer;
+
 /// Joining by the engine and by Rust over words, as the engine does it.
 fn print_joins(effort: Effort) {
     println!("\njoining two models, sparse, in new files: by the engine and by Rust; the median of the engine's time / Rust's");
@@ -398,14 +401,16 @@ fn print_joins(effort: Effort) {
             })
             .collect();
         let buffer = RefCell::new([0; 4248]);
-        let joined = |join: fn(&[u8], &[u8], &mut [u8]) -> Answer, [first, second]: &[Subject; 2]| {
+        let joined = |join: Join, [first, second]: &[Subject; 2]| {
             let mut buffer = buffer.borrow_mut();
             let answer = join(black_box(&first.file), black_box(&second.file), &mut *buffer);
             black_box(&mut *buffer);
             answer
         };
+        let expected = Answer { length: file_length(2 * lines, levels) as u64, ..Answer::default() };
         for pair in &pairs {
-            assert_eq!(joined(ffi::join, pair), joined(join, pair), "the engine and Rust join differently");
+            assert_eq!(joined(ffi::join, pair), expected);
+            assert_eq!(joined(join, pair), expected);
         }
         let times = measure(effort, &pairs, &[&|pair| joined(ffi::join, pair), &|pair| joined(join, pair)]);
         let [engine, rust] = [times.seconds[0], times.seconds[1]].map(time);

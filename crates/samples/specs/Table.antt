@@ -5,6 +5,7 @@ use mathlib.Core.Path.{_≡_}
 use Prim.Native.Nat.{ℕ}
 use Rattle.trees.specs.Built.{built, leafCount}
 use Rattle.system.specs.System.{System}
+use Rattle.system.specs.Joined.{joined}
 use Rattle.routes.specs.Routes.{builtLeast, builtGreatest, nestedSet, plainRun, restrictedSet, restrictedCount}
 use Rattle.share.specs.Share.{shareOf}
 use Rattle.page_layout.specs.Page.{page}
@@ -71,6 +72,15 @@ table =
     row (plainly oneLineTwice 0 3 ++ overBuilt oneLineTwice 0 3) (3 ∷ 3 ∷ 3 ∷ 3 ∷ 4 ∷ []) ∷
     -- The heights that the table of leaf counts leaves out (request W5): 1 leaf and n leaves, and none where n is 0.
     row (leafCount 0 0 ∷ leafCount 1 0 ∷ leafCount 64 0 ∷ leafCount 0 1 ∷ leafCount 1 1 ∷ leafCount 63 1 ∷ []) (0 ∷ 1 ∷ 1 ∷ 0 ∷ 1 ∷ 63 ∷ []) ∷
+    -- Joined models (request W6). One line and the dead ends behind it: their words 0, 0, 5 and 10 are moved up by one line, and their set 14 becomes 28
+    -- beside the line's own 1. The other way round the line comes fifth, and its set is 16. Each has two rounds: the first takes away the dead end alone,
+    -- the second nothing. S(5, 1) has five leaves.
+    row (joined (one 1) (deadEnds 1) .words) (1 ∷ 0 ∷ 0 ∷ 10 ∷ 20 ∷ []) ∷
+    row (plainly (joined (one 1) (deadEnds 1)) 0 31 ++ overBuilt (joined (one 1) (deadEnds 1)) 0 31) (29 ∷ 29 ∷ 2 ∷ 29 ∷ 5 ∷ []) ∷
+    row (plainly (joined (deadEnds 1) (one 1)) 0 31 ++ overBuilt (joined (deadEnds 1) (one 1)) 0 31) (30 ∷ 30 ∷ 2 ∷ 30 ∷ 5 ∷ []) ∷
+    -- P, with the set 3, and the pyrometers behind it, with the set 7: 3 + 4 * 7. Level 1 settles in its third round, as it does in both alone, and level 2 in
+    -- its second, as in the pyrometers alone. S(6, 1) has six leaves.
+    row (plainly (joined P (pyrometers 2)) 0 63 ++ overBuilt (joined P (pyrometers 2)) 0 63) (31 ∷ 31 ∷ 6 ∷ 31 ∷ 36 ∷ []) ∷
     []
 
 -- every row of a table holds

@@ -9,9 +9,9 @@ fn put_lines(m: Model, up: usize, records: &mut [u8], words: &mut [u8]) {
     for (i, record) in records.chunks_exact_mut(2).enumerate() {
         record.copy_from_slice(&[m.kind(i), m.threshold(i)]);
     }
-    let from = &m.file[m.words_at()..];
-    for (at, word) in words.chunks_exact_mut(8).enumerate() {
-        word.copy_from_slice(&(u64_at(from, 8 * at) << up).to_le_bytes());
+    let own = m.file[m.words_at()..].chunks_exact(8);
+    for (word, own) in words.chunks_exact_mut(8).zip(own) {
+        word.copy_from_slice(&(u64_at(own, 0) << up).to_le_bytes());
     }
 }
 

@@ -48,7 +48,7 @@ put-moved-words-requires-2 c κs =
     let ready = start .pre .0 in
     let room : 8 * (start .args .m .lines * start .args .m .levels) + 8 * (start .args .k .lines * start .args .k .levels) ≤ length (now (start .args .s)) =
     omega (arith, start .pre .1, add-mul (start .args .m .lines) (start .args .k .lines) (start .args .m .levels), ap (λ (d : ℕ). start .args .k .lines * d) (ready .same-levels)) in
-    (ready .second-laid, (ready .second-words, ((omega (arith, ready .few-lines, ready .some-line), ready .few-lines), omega (arith, room))))
+    (ready .second-laid, (ready .second-words, ((omega (arith, ready .few-lines, ready .some-line), omega (arith, ready .few-lines)), omega (arith, room))))
 
 same-length : tie.Need-same-length
 same-length c = search needs

@@ -138,7 +138,7 @@ returns-5 c =
     too-many _ _ _ (known₁ (told₁ both)) (known₂ both) (same-levels alike-both) (alike alike-both) (c .if3 .taken)
 
 file-length-requires : tie.Need-file-length-requires
-file-length-requires c κs = (c .if3 .left, known₁ (told₁ (both₃ (c .before .before .before))) .limits .1)
+file-length-requires c κs = (omega (arith, c .if3 .left), known₁ (told₁ (both₃ (c .before .before .before))) .limits .1)
 
 returns-6 : tie.Need-returns-6
 returns-6 c =
