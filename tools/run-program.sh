@@ -1,45 +1,12 @@
 #!/usr/bin/env bash
-# Runs one of the programs on a model's file: tools/run-program.sh judge FILE. Proves and builds the program first where it is missing or older than
-# its sources. judge.sh and page.sh call it, so its messages name the script of that program.
+# Runs one of the programs on a model's file: tools/run-program.sh judge FILE. judge.sh and page.sh call it.
 set -euo pipefail
 root=$(cd "$(dirname "${BASH_SOURCE[0]}")/.." && pwd)
 name=$1
-script=$name.sh
 shift
-program=$root/target/bin/$name
 if [ $# -ne 1 ]; then
-    echo "usage: ./$script FILE" >&2
+    echo "usage: ./$name.sh FILE" >&2
     exit 2
 fi
-if [ ! -f "$1" ]; then
-    echo "$script: $1: no such file" >&2
-    exit 2
-fi
-if [ ! -r "$1" ]; then
-    echo "$script: $1: the file cannot be read" >&2
-    exit 2
-fi
-# A folder is newer than the program where a file in it has come or gone.
-why=
-if [ ! -x "$program" ]; then
-    why="it is missing"
-else
-    newer=$(cd "$root" && find crates.txt crates -newer "$program" -print -quit)
-    [ -z "$newer" ] || why="$newer is newer"
-fi
-if [ -n "$why" ]; then
-    if ! command -v rt >/dev/null; then
-        echo "$script: the program is to be built ($why), and rt is not on the PATH: install the Rattle kit (/opt/rattle)" >&2
-        exit 2
-    fi
-    echo "$script: proving and building the program, since $why" >&2
-    # The program counts as old as this moment: what changes while it is built is newer.
-    began=$(mktemp)
-    trap 'rm -f "$began"' EXIT
-    if ! (cd "$root" && rt check "$name") >&2; then
-        echo "$script: the program could not be proved and built, so nothing is judged" >&2
-        exit 1
-    fi
-    touch -r "$began" "$program"
-fi
-"$program" <"$1"
+bash "$root/tools/ready-program.sh" "$name" "$1"
+"$root/target/bin/$name" <"$1"

@@ -1,22 +1,28 @@
--- Two files that joining accepts: each is right, their systems can be joined, and there is room for the joined file.
+-- Two files that joining accepts: each is right, their systems can be joined, and there is room for the joined file. So what is made fits the buffer.
 -- Assumes nothing.
 use mathlib.Core.Bool.{false}
 use mathlib.Core.List.{List, [], _∷_, _++_}
-use mathlib.Core.Path.{_≡_, refl, sym, _∙_, ap₂}
+use mathlib.Core.Path.{_≡_, refl, sym, _∙_, ap, ap₂}
 use Prim.Native.Nat.{ℕ, suc, _≤_, _<_}
 use native.Mathlib.Omega.{arith}
 use borrow.Author.Tests.{ltb-false}
 use lib.ListN.{length, getD}
-use Rattle.answers.specs.Check.{Check}
+use Rattle.answers.specs.Answer.{Answer}
+use Rattle.answers.specs.Check.{Check, unless}
 use Rattle.answers.proofs.Checks.{passes-both, passes-none, none-first, same}
 use Rattle.system.specs.System.{System}
 use Rattle.system.specs.Joined.{joined, WellFormed, Joinable}
 use Rattle.model.specs.File.{fileLength, decode}
 use Rattle.model.specs.Checks.{someBelow}
+use Rattle.model.specs.Says.{made}
 use Rattle.model.proofs.Searches.{false-below}
+use Rattle.model.proofs.Refusals.{none-of}
 use Rattle.checker.specs.Checks.{fileChecks, fileNumber}
 use Rattle.checker.proofs.Accepted.{accepted, formed}
-use Rattle.joiner.specs.Says.{differAt, levelChecks, sizeChecks, joinedOf, joinChecks, joinNumber}
+use Rattle.writer.specs.Says.{writtenAnswer}
+use Rattle.writer.specs.declared.Written.{Written}
+use Rattle.writer.specs.declared.Written.the-variants as written
+use Rattle.joiner.specs.Says.{differAt, levelChecks, sizeChecks, joinedOf, joinChecks, joinNumber, joinAnswer, JoinSays}
 
 -- the checks of two systems together, in a buffer of `room` bytes
 abbrev pub bothChecks : System → System → ℕ → List Check
@@ -64,3 +70,12 @@ join-passes first second room none =
       can-join = joinable (formed first (accepted first right₁)) (formed second (accepted second right₂)) (same (both .0)) (both .1 .0) (ltb-false 64 _ (both .1 .1 .0));
       enough = ltb-false room _ (both .1 .1 .1 .0);
     }
+
+-- what is made is no longer than the buffer
+pub made-fits : {first second buffer buffer′ : List ℕ} {r : Written} {bytes : ℕ} → JoinSays first second buffer r buffer′ → r ≡ written.Length bytes → bytes ≤ length buffer
+made-fits {first} {second} {buffer} {bytes = bytes} says is =
+    let size = fileLength (joinedOf first second .lines) (joinedOf first second .levels) in
+    let answer : made bytes ≡ joinAnswer first second (length buffer) = ap writtenAnswer (sym is) ∙ says .answer in
+    let none : joinNumber first second (length buffer) ≡ 0 = none-of _ _ _ answer refl refl in
+    let long : bytes ≡ size = ap (λ (a : Answer). a .length) (answer ∙ ap (λ (e : ℕ). unless e (made size)) none) in
+    rw long (join-passes first second (length buffer) none .enough)
