@@ -1,4 +1,4 @@
-/* Writes the file of a small model, reads it back, judges it in each of the three ways, and makes its bench page.
+/* Writes the file of a small model, reads it back, judges it in each of the three ways, makes its bench page, and joins it with itself.
  *
  *   rt staticlib solver_c
  *   cc -std=c99 -I include examples/judge_p.c target/staticlib/libsolver_c.a -o target/judge_p && target/judge_p
@@ -68,6 +68,13 @@ int main(void) {
     solver_page(file, length, page, sizeof page, answer);
     printf("page: %" PRIu64 " bytes\n", answer[LENGTH]);
     fwrite(page, 1, answer[LENGTH], stdout);
+
+    /* Two cabinets of this model in one: four lines, of which all are 15. */
+    uint8_t joined[90];
+    solver_join(file, length, file, length, joined, sizeof joined, answer);
+    printf("joined: %" PRIu64 " bytes\n", answer[LENGTH]);
+    solver_built(joined, sizeof joined, 0, 15, answer);
+    show_judged("joined, by built-in trees", answer);
 
     solver_leaf_count(8, 2, answer);
     printf("leaves for 8 lines, height 2: %" PRIu64 "\n", answer[COUNT]);

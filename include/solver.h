@@ -32,6 +32,11 @@ void solver_lent(const uint8_t *file, size_t file_len, uint64_t a, uint64_t b, c
  * are kept. */
 void solver_page(const uint8_t *file, size_t file_len, uint8_t *buffer, size_t buffer_len, uint64_t answer[6]);
 
+/* The models of two files joined in one new file in a buffer, the lines of the second behind those of the first; bytes after the file are kept.
+ * Both may be the same file. */
+void solver_join(const uint8_t *first, size_t first_len, const uint8_t *second, size_t second_len, uint8_t *buffer, size_t buffer_len,
+                 uint64_t answer[6]);
+
 /* The leaves of the built-in tree of height h for n lines. */
 void solver_leaf_count(size_t n, size_t h, uint64_t answer[6]);
 

@@ -1,13 +1,20 @@
 //! The judging program and the page program: their texts against the reference's, for the sample models, random files, input in pieces and
-//! input that is too long; and their scripts with a file that is not there.
+//! input that is too long. The join program: its files and refusals against the reference's, for random pairs of files, 64 lines and 65,
+//! files that are too long, empty or not there. And the scripts of all three.
 
+use harness::lent::Seen;
 use harness::random::{self, full, Random};
 use harness::reference::game::winning_lines;
 use harness::reference::{self, set_of, word_of, Kind, Tree};
 use harness::{root, Answer};
 use std::io::Write;
-use std::process::{Command, Stdio};
+use std::process::{Command, Output, Stdio};
 use std::time::Duration;
+
+/// The bytes of a file of the repository.
+fn bytes_of(path: &str) -> Vec<u8> {
+    std::fs::read(root(path)).expect("it is there")
+}
 
 /// What a program writes for an input that arrives in these pieces.
 fn written(name: &str, pieces: &[&[u8]], pause: Duration) -> String {
@@ -43,7 +50,7 @@ fn line(word: &str, answer: Answer) -> String {
     }
 }
 
-/// What both programs write of a file that is turned down.
+/// What the programs write of a file that is turned down.
 fn refused(number: u64) -> String {
     format!("refused {number}\n")
 }
@@ -83,12 +90,12 @@ fn every_sample_model_is_judged_and_has_its_page() {
             seen += 1;
         }
     }
-    assert_eq!(seen, 9);
+    assert_eq!(seen, 10);
 }
 
 #[test]
 fn the_sample_models_show_what_their_note_says() {
-    let text = |name: &str| judged(&std::fs::read(root(name)).expect("it is there"));
+    let text = |name: &str| judged(&bytes_of(name));
     assert_eq!(text("models/p.model"), "plain 0000000000000003 3\ntree 0000000000000003 4\nshare 1000\n");
     assert_eq!(text("models/q.model"), "plain 0000000000000000 3\ntree 0000000000000000 4\nshare 0\n");
     assert_eq!(text("models/one-line.model"), "plain 0000000000000000 1\ntree 0000000000000000 1\nshare 0\n");
@@ -108,10 +115,7 @@ fn the_sample_models_show_what_their_note_says() {
 
 #[test]
 fn the_pyrometers_vote_as_their_note_says() {
-    let read = |name: &str| {
-        let file = std::fs::read(root(name)).expect("it is there");
-        reference::Model::from_file(&file).expect("it is a model")
-    };
+    let read = |name: &str| reference::Model::from_file(&bytes_of(name)).expect("it is a model");
     let (model, old) = (read("models/pyrometers.model"), read("models/pyrometers-old.model"));
     // The file is new, and so is that of every other threshold.
     let of_threshold = |t: u8| {
@@ -119,7 +123,7 @@ fn the_pyrometers_vote_as_their_note_says() {
         file[16 + 2 + 1] = t;
         judged(&file)
     };
-    assert_eq!(model.file(), std::fs::read(root("models/pyrometers.model")).expect("it is there"));
+    assert_eq!(model.file(), bytes_of("models/pyrometers.model"));
     assert_eq!(of_threshold(2), judged(&model.file()));
     assert!(of_threshold(3).contains("tree 0000000000000006 16\n"));
     assert_eq!((of_threshold(0), of_threshold(4)), (refused(14), refused(14)));
@@ -137,12 +141,12 @@ fn the_pyrometers_vote_as_their_note_says() {
     for line in 1..4 {
         assert_eq!((old.kinds[line], &old.operands[line]), (model.kinds[line], &model.operands[line]));
     }
-    assert_eq!(old.old_file(), std::fs::read(root("models/pyrometers-old.model")).expect("it is there"));
+    assert_eq!(old.old_file(), bytes_of("models/pyrometers-old.model"));
 }
 
 #[test]
 fn two_more_closed_interlocks_have_the_share_that_the_note_says() {
-    let file = std::fs::read(root("models/interlocks.model")).expect("it is there");
+    let file = bytes_of("models/interlocks.model");
     let mut model = reference::Model::from_file(&file).expect("it is a model");
     assert!(model.kinds[15] == Kind::All && model.is_idle(15));
     for line in [13, 14] {
@@ -154,7 +158,7 @@ fn two_more_closed_interlocks_have_the_share_that_the_note_says() {
 
 #[test]
 fn loops_in_place_of_missing_successors_are_judged_as_the_note_says() {
-    let file = std::fs::read(root("models/tripped.model")).expect("it is there");
+    let file = bytes_of("models/tripped.model");
     let looped = |line: usize, level: usize| {
         let mut model = reference::Model::from_file(&file).expect("it is a model");
         assert!(model.is_idle(line));
@@ -199,7 +203,7 @@ fn random_files_are_judged_or_refused() {
 #[test]
 fn input_in_pieces_is_one_input() {
     for name in ["models/p.model", "models/incident.model"] {
-        let file = std::fs::read(root(name)).expect("it is there");
+        let file = bytes_of(name);
         let pieces: Vec<&[u8]> = file.chunks(7).collect();
         let pause = Duration::from_millis(3);
         assert_eq!(written("judge", &pieces, pause), expected_judgement(&file));
@@ -209,10 +213,7 @@ fn input_in_pieces_is_one_input() {
 
 #[test]
 fn input_that_is_too_long_is_refused() {
-    let model = |name: &str| {
-        let file = std::fs::read(root(name)).expect("it is there");
-        reference::Model::from_file(&file).expect("it is a model")
-    };
+    let model = |name: &str| reference::Model::from_file(&bytes_of(name)).expect("it is a model");
     let (largest, small) = (model("models/largest.model"), model("models/p.model"));
     assert_eq!((largest.file().len(), largest.old_file().len()), (4248, 4184));
     for file in [largest.file(), largest.old_file(), small.file(), small.old_file()] {
@@ -233,20 +234,229 @@ fn no_input_is_refused() {
     assert_eq!(paged(&[]), "refused 1\n");
 }
 
+/// The joined file by the reference, none where it is refused, and what the join program says.
+fn expected_join(first: &[u8], second: &[u8]) -> (Answer, Vec<u8>, String) {
+    let mut file = vec![0; 4248];
+    let answer = reference::join(first, second, &mut file);
+    file.truncate(answer.length as usize);
+    let said = if answer.number == 0 { String::new() } else { refused(answer.number) };
+    (answer, file, said)
+}
+
+/// A path in the tests' folder of this test's file.
+fn path_of(test: &str, name: &str) -> String {
+    format!("{}/{test} {name}.model", env!("CARGO_TARGET_TMPDIR"))
+}
+
+/// The paths of two files of these bytes, which it writes.
+fn saved(test: &str, first: &[u8], second: &[u8]) -> [String; 2] {
+    [("first", first), ("second", second)].map(|(name, bytes)| {
+        let path = path_of(test, name);
+        std::fs::write(&path, bytes).expect("it is written");
+        path
+    })
+}
+
+/// Runs the join program, which must end well with this file, or none, and these words.
+fn assert_joins(paths: &[String; 2], file: &[u8], says: &str) {
+    let output = Command::new(root("target/bin/join"))
+        .args(paths)
+        .output()
+        .expect("target/bin/join is missing: run `rt check join` first");
+    assert!(output.status.success());
+    assert_eq!(String::from_utf8_lossy(&output.stderr), says);
+    assert_eq!(output.stdout, file);
+}
+
+/// Joins two files by the program and by the reference, and compares the file and the refusal.
+fn join_both(test: &str, first: &[u8], second: &[u8]) -> Answer {
+    let (answer, file, said) = expected_join(first, second);
+    assert_joins(&saved(test, first, second), &file, &said);
+    answer
+}
+
 #[test]
-fn each_script_runs_its_program_and_names_a_file_that_is_not_there() {
-    let p = std::fs::read(root("models/p.model")).expect("it is there");
-    for (script, text) in [("judge.sh", expected_judgement(&p)), ("page.sh", expected_page(&p))] {
-        let run =
-            |path: &str| Command::new("bash").arg(root(script)).arg(path).output().expect("bash is there");
-        let found = run(&root("models/p.model"));
-        assert!(found.status.success());
-        assert_eq!(String::from_utf8_lossy(&found.stdout), text);
-        for path in ["models/none.model", "", "models"] {
-            let missing = run(path);
-            assert_eq!(missing.status.code(), Some(2), "{script} {path:?}");
-            assert!(missing.stdout.is_empty(), "{script} {path:?}");
-            assert!(String::from_utf8_lossy(&missing.stderr).starts_with(script), "{script} {path:?}");
+fn random_pairs_are_joined_or_refused() {
+    let mut random = Random::new(803);
+    let mut seen = Seen::default();
+    // How often each file of a joined pair was a new one or an old one.
+    let mut mixed = [[0; 2]; 2];
+    for _ in 0..300 {
+        let (most, d) = (if random.chance(90) { 32 } else { 64 }, random.between(1, 8));
+        let [first, second] = random::troubled_pair(&mut random, most, d);
+        let answer = join_both("pairs", &first, &second);
+        seen.note(answer);
+        if answer.number == 0 {
+            let [i, j] = [&first, &second]
+                .map(|file| random::is_old(file, file[0] as usize, file[2] as usize) as usize);
+            mixed[i][j] += 1;
         }
     }
+    seen.assert_each(&[0, 1, 2, 3, 4, 5, 6, 7, 14, 15], 3);
+    assert!(mixed.concat().iter().all(|&times| times > 10), "{mixed:?}");
+}
+
+#[test]
+fn sixty_four_lines_together_are_joined_and_sixty_five_refused() {
+    let mut random = Random::new(804);
+    for d in [1, 8] {
+        for (n, m) in [(1, 63), (32, 32), (63, 1), (1, 64), (32, 33), (64, 1)] {
+            let models = random::models_alike(&mut random, [n, m], d);
+            let [first, second] = models.map(|model| random::file(&mut random, &model));
+            let answer = join_both("lines", &first, &second);
+            assert_eq!(answer.number, if n + m == 64 { 0 } else { 2 });
+            assert!(n + m > 64 || d < 8 || answer.length == 4248);
+        }
+    }
+}
+
+#[test]
+fn files_that_are_too_long_are_refused() {
+    let mut random = Random::new(805);
+    let models = random::models_alike(&mut random, [64, 7], 8);
+    let [largest, small] = models.map(|model| model.file());
+    assert_eq!(largest.len(), 4248);
+    // As long as the largest file, one and more above, and far above.
+    for length in [4248, 4249, 4250, 8498, 200_000] {
+        for file in [&largest, &small] {
+            let mut long = file.clone();
+            long.resize(length, 0);
+            let number = if long == largest { 2 } else { 5 };
+            for (first, second) in [(&long, &small), (&small, &long)] {
+                assert_eq!(join_both("long", first, second), Answer::refused(number));
+            }
+        }
+        // What is wrong before the length comes first.
+        assert_eq!(join_both("long", &vec![0; length], &small), Answer::refused(2));
+    }
+}
+
+#[test]
+fn empty_files_are_refused() {
+    let p = bytes_of("models/p.model");
+    for (first, second) in [(&[][..], &p[..]), (&p, &[]), (&[], &[])] {
+        assert_eq!(join_both("empty", first, second), Answer::refused(1));
+    }
+}
+
+/// A file that is not there is named, and then refused as an empty one.
+#[test]
+fn files_that_are_not_there_are_named_and_refused() {
+    let none = |name: &str| path_of("missing", name);
+    let named = |path: &str| format!("{path}: No such file or directory\n");
+    let p = bytes_of("models/p.model");
+    let [first, second] = saved("missing", &p, &[&p[..], &[0]].concat());
+    for (paths, number) in [
+        ([none("a"), first.clone()], 1),
+        ([first, none("b")], 1),
+        ([none("a"), none("b")], 1),
+        ([second, none("b")], 5),
+    ] {
+        let missing = paths.iter().filter(|path| !std::fs::exists(path).expect("its folder is there"));
+        let says = missing.map(|path| named(path)).collect::<String>() + &refused(number);
+        assert_joins(&paths, &[], &says);
+    }
+}
+
+#[test]
+fn the_joined_sample_model_is_that_of_the_other_two() {
+    let (p, pyrometers) = (bytes_of("models/p.model"), bytes_of("models/pyrometers.model"));
+    let (_, joined, _) = expected_join(&p, &pyrometers);
+    assert_eq!(bytes_of("models/p-and-pyrometers.model"), joined);
+    assert_eq!(bytes_of("crates/join/stdout"), joined);
+    assert_eq!(bytes_of("crates/join/data/p.model"), p);
+    assert_eq!(bytes_of("crates/join/data/pyrometers.model"), pyrometers);
+}
+
+fn run_script(script: &str, paths: &[&str]) -> Output {
+    Command::new("bash").arg(root(script)).args(paths).output().expect("bash is there")
+}
+
+/// What no script takes for a file.
+const NO_FILES: [&str; 3] = ["models/none.model", "", "models"];
+
+/// A script must have ended with 2, printed nothing and named this path.
+fn assert_names(script: &str, path: &str, output: &Output) {
+    assert_eq!(output.status.code(), Some(2), "{script} {path:?}");
+    assert!(output.stdout.is_empty(), "{script} {path:?}");
+    assert_eq!(String::from_utf8_lossy(&output.stderr), format!("{script}: {path}: no such file\n"));
+}
+
+#[test]
+fn each_script_runs_its_program_and_names_a_file_that_is_not_there() {
+    let p = bytes_of("models/p.model");
+    for (script, text) in [("judge.sh", expected_judgement(&p)), ("page.sh", expected_page(&p))] {
+        let found = run_script(script, &[&root("models/p.model")]);
+        assert!(found.status.success());
+        assert_eq!(String::from_utf8_lossy(&found.stdout), text);
+        for path in NO_FILES {
+            assert_names(script, path, &run_script(script, &[path]));
+        }
+    }
+}
+
+/// Runs `join.sh`, which must print nothing and end with this status and these words, and answers what is then in its third file.
+fn join_by_script(paths: [&str; 3], status: i32, says: &str) -> Option<Vec<u8>> {
+    let output = run_script("join.sh", &paths);
+    assert_eq!(String::from_utf8_lossy(&output.stderr), says);
+    assert_eq!(output.status.code(), Some(status));
+    assert!(output.stdout.is_empty());
+    std::fs::read(paths[2]).ok()
+}
+
+#[test]
+fn join_sh_writes_the_joined_file() {
+    let mut random = Random::new(806);
+    let models = random::models_alike(&mut random, [5, 9], 3);
+    let [first, second] = models.map(|model| random::file(&mut random, &model));
+    let out = path_of("script", "out");
+    let _ = std::fs::remove_file(&out);
+    // To a file that is not there and to one that is, in the other order; to a longer one; and over either of the two, or both.
+    let save = || saved("script", &first, &second);
+    let [a, b] = &save();
+    let joined = |first: &[u8], second: &[u8]| Some(expected_join(first, second).1);
+    assert_eq!(join_by_script([a, b, &out], 0, ""), joined(&first, &second));
+    assert_eq!(join_by_script([b, a, &out], 0, ""), joined(&second, &first));
+    std::fs::write(&out, [0xee; 5000]).expect("it is written");
+    assert_eq!(join_by_script([a, b, &out], 0, ""), joined(&first, &second));
+    assert_eq!(join_by_script([a, b, a], 0, ""), joined(&first, &second));
+    save();
+    assert_eq!(join_by_script([a, b, b], 0, ""), joined(&first, &second));
+    assert_eq!(join_by_script([a, a, a], 0, ""), joined(&first, &first));
+}
+
+#[test]
+fn join_sh_leaves_its_third_file_where_the_two_are_refused() {
+    let p = bytes_of("models/p.model");
+    let out = path_of("refused", "out");
+    for (second, number) in [(&p[..p.len() - 1], 5), (&bytes_of("models/q.model"), 15), (&[], 1)] {
+        let [a, b] = &saved("refused", &p, second);
+        let _ = std::fs::remove_file(&out);
+        assert_eq!(join_by_script([a, b, &out], 1, &refused(number)), None);
+        std::fs::write(&out, "as it was").expect("it is written");
+        assert_eq!(join_by_script([a, b, &out], 1, &refused(number)), Some(b"as it was".to_vec()));
+        assert_eq!(join_by_script([a, b, a], 1, &refused(number)), Some(p.clone()));
+    }
+}
+
+#[test]
+fn join_sh_names_what_it_cannot_use() {
+    let p = &root("models/p.model");
+    let out = &path_of("unusable", "out");
+    std::fs::write(out, "as it was").expect("it is written");
+    for path in NO_FILES {
+        assert_names("join.sh", path, &run_script("join.sh", &[path, p, out]));
+        assert_names("join.sh", path, &run_script("join.sh", &[p, path, out]));
+    }
+    for paths in [&[][..], &[p], &[p, p], &[p, p, out, out]] {
+        let output = run_script("join.sh", paths);
+        assert_eq!(output.status.code(), Some(2), "{paths:?}");
+        assert!(output.stdout.is_empty());
+        assert_eq!(String::from_utf8_lossy(&output.stderr), "usage: ./join.sh FIRST SECOND OUT\n");
+    }
+    assert_eq!(std::fs::read(out).expect("it is there"), b"as it was");
+    let nowhere = path_of("no such folder/", "out");
+    let output = run_script("join.sh", &[p, p, &nowhere]);
+    assert!(!output.status.success() && output.stdout.is_empty());
+    assert!(String::from_utf8_lossy(&output.stderr).contains(&nowhere));
 }

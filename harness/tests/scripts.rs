@@ -1,5 +1,5 @@
-//! `judge.sh` and `page.sh` run no program that is older than its sources. Each is copied to a folder of its own, where a script stands
-//! for `rt`: what it builds prints "new", and the program that is there beforehand prints "old".
+//! `judge.sh`, `page.sh` and `join.sh` run no program that is older than its sources. Each is copied to a folder of its own, where a script
+//! stands for `rt`: what it builds prints "new", and the program that is there beforehand prints "old".
 
 use std::fs::{self, File, Permissions};
 use std::os::unix::fs::PermissionsExt;
@@ -8,7 +8,7 @@ use std::process::{Command, Output};
 use std::time::{Duration, SystemTime};
 
 /// The programs, each of which has a script of its name.
-const PROGRAMS: [&str; 2] = ["judge", "page"];
+const PROGRAMS: [&str; 3] = ["judge", "page", "join"];
 
 struct Copy {
     folder: PathBuf,
@@ -36,7 +36,7 @@ impl Copy {
         for part in ["crates/a/src", "target/bin", "bin", "tools"] {
             fs::create_dir_all(folder.join(part)).expect("it is made");
         }
-        for script in [&format!("{program}.sh"), "tools/run-program.sh"] {
+        for script in [&format!("{program}.sh"), "tools/run-program.sh", "tools/ready-program.sh"] {
             fs::copy(Path::new(env!("CARGO_MANIFEST_DIR")).join("..").join(script), folder.join(script))
                 .expect("it is there");
         }
@@ -71,14 +71,20 @@ impl Copy {
         set_age(&self.folder.join(path), seconds);
     }
 
+    /// Runs the script. What `join.sh` writes to its third file, and to no other place, stands in the output as if it were printed.
     fn run(&self) -> Output {
         let path =
             format!("{}:{}", self.folder.join("bin").display(), std::env::var("PATH").expect("there is one"));
-        Command::new(self.folder.join(format!("{}.sh", self.program)))
-            .arg(self.folder.join("a.model"))
-            .env("PATH", path)
-            .output()
-            .expect("it ran")
+        let [model, joined] = ["a.model", "joined.model"].map(|name| self.folder.join(name));
+        let mut script = Command::new(self.folder.join(format!("{}.sh", self.program)));
+        script.arg(&model).env("PATH", path);
+        if self.program != "join" {
+            return script.output().expect("it ran");
+        }
+        fs::write(&joined, "").expect("it is written");
+        let output = script.args([&model, &joined]).output().expect("it ran");
+        assert!(output.stdout.is_empty());
+        Output { stdout: fs::read(&joined).expect("it is there"), ..output }
     }
 
     fn prints(&self, program: &str, says: &str) {
@@ -149,11 +155,11 @@ fn a_source_changed_meanwhile_has_it_built_again() {
 }
 
 #[test]
-fn nothing_is_judged_where_the_program_is_not_proved() {
+fn a_program_that_is_not_proved_is_not_run() {
     for program in PROGRAMS {
         let output = Copy::stale(program, "not_proved", "exit 1").run();
         assert_eq!(output.status.code(), Some(1));
         assert!(output.stdout.is_empty());
-        assert!(String::from_utf8_lossy(&output.stderr).contains("nothing is judged"));
+        assert!(String::from_utf8_lossy(&output.stderr).contains("it is not run"));
     }
 }

@@ -90,22 +90,31 @@ fn line_faults(file: &[u8], m: Model) -> LineFaults
     }
 }
 
-// Whether a selected line is none of the model's. The words are joined and looked at once: no test stands in the loop, so that it takes several words at a time.
+// Whether a selected line is none of the model's; the first ends the search.
 fn stray_selection(file: &[u8], m: Model) -> bool
     requires { ⌜ LaidOut (now file) m ⌝ }
     ensures { λ r. ⌜ r ≡ some (strays (m .lines)) (systemIn (now (file .entry)) m .words) ⌝ }
 {
     let n = m.lines;
-    let first = words_in(file);
-    let count = n * m.levels;
-    let mut selected: u64 = 0;
-    let mut j = 0;
-    while j < count {
-        selected = selected | u64_at(file, first + 8 * j);
-        j += 1;
-    }
+    let d = m.levels;
     let all = sets::full_set(n);
-    selected & all != selected
+    let mut at = words_in(file);
+    let mut stray = false;
+    let mut i = 0;
+    'search: while i < n {
+        let mut k = 0;
+        while k < d {
+            let w = u64_at(file, at);
+            if w & all != w {
+                stray = true;
+                break 'search;
+            }
+            at += 8;
+            k += 1;
+        }
+        i += 1;
+    }
+    stray
 }
 
 // Refusals 1 to 5, or the counts.
