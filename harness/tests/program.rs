@@ -111,6 +111,10 @@ fn the_sample_models_show_what_their_note_says() {
     );
     assert!(text("models/pyrometers.model").contains("tree 0000000000000007 16\nshare 750\n"));
     assert!(text("models/pyrometers-old.model").contains("tree 0000000000000017 49\nshare 571\n"));
+    assert_eq!(
+        text("models/p-and-pyrometers.model"),
+        "plain 000000000000001f 6\ntree 000000000000001f 36\nshare 833\n"
+    );
 }
 
 #[test]
@@ -243,7 +247,7 @@ fn expected_join(first: &[u8], second: &[u8]) -> (Answer, Vec<u8>, String) {
     (answer, file, said)
 }
 
-/// A path in the tests' folder of this test's file.
+/// The path of a file of this test, with a space in it.
 fn path_of(test: &str, name: &str) -> String {
     format!("{}/{test} {name}.model", env!("CARGO_TARGET_TMPDIR"))
 }
@@ -281,7 +285,7 @@ fn random_pairs_are_joined_or_refused() {
     let mut seen = Seen::default();
     // How often each file of a joined pair was a new one or an old one.
     let mut mixed = [[0; 2]; 2];
-    for _ in 0..300 {
+    for _ in 0..250 {
         let (most, d) = (if random.chance(90) { 32 } else { 64 }, random.between(1, 8));
         let [first, second] = random::troubled_pair(&mut random, most, d);
         let answer = join_both("pairs", &first, &second);
@@ -293,7 +297,7 @@ fn random_pairs_are_joined_or_refused() {
         }
     }
     seen.assert_each(&[0, 1, 2, 3, 4, 5, 6, 7, 14, 15], 3);
-    assert!(mixed.concat().iter().all(|&times| times > 10), "{mixed:?}");
+    assert!(mixed.concat().iter().all(|&times| times >= 5), "{mixed:?}");
 }
 
 #[test]
@@ -343,18 +347,17 @@ fn empty_files_are_refused() {
 #[test]
 fn files_that_are_not_there_are_named_and_refused() {
     let none = |name: &str| path_of("missing", name);
-    let named = |path: &str| format!("{path}: No such file or directory\n");
     let p = bytes_of("models/p.model");
-    let [first, second] = saved("missing", &p, &[&p[..], &[0]].concat());
+    let [first, long] = saved("missing", &p, &[&p[..], &[0]].concat());
     for (paths, number) in [
         ([none("a"), first.clone()], 1),
         ([first, none("b")], 1),
         ([none("a"), none("b")], 1),
-        ([second, none("b")], 5),
+        ([long, none("b")], 5),
     ] {
         let missing = paths.iter().filter(|path| !std::fs::exists(path).expect("its folder is there"));
-        let says = missing.map(|path| named(path)).collect::<String>() + &refused(number);
-        assert_joins(&paths, &[], &says);
+        let named: String = missing.map(|path| format!("{path}: No such file or directory\n")).collect();
+        assert_joins(&paths, &[], &(named + &refused(number)));
     }
 }
 
@@ -441,8 +444,8 @@ fn join_sh_leaves_its_third_file_where_the_two_are_refused() {
 
 #[test]
 fn join_sh_names_what_it_cannot_use() {
-    let p = &root("models/p.model");
-    let out = &path_of("unusable", "out");
+    let p: &str = &root("models/p.model");
+    let out: &str = &path_of("unusable", "out");
     std::fs::write(out, "as it was").expect("it is written");
     for path in NO_FILES {
         assert_names("join.sh", path, &run_script("join.sh", &[path, p, out]));

@@ -83,12 +83,10 @@ impl<'a> Model<'a> {
         if model.signs().iter().any(|&sign| sign > 1) || (0..lines).any(over) {
             return Err(6);
         }
-        // All words together are looked at once, as the engine does it.
-        let selected = file[model.words_at()..].chunks_exact(8).fold(0, |all, word| all | u64_at(word, 0));
-        if selected & !full_set(lines) != 0 {
+        let word = |at: usize| u64_at(file, model.words_at() + 8 * at);
+        if (0..lines * levels).any(|at| word(at) & !full_set(lines) != 0) {
             return Err(7);
         }
-        let word = |at: usize| u64_at(file, model.words_at() + 8 * at);
         let operands = |i: usize| (0..levels).map(|level| word(levels * i + level).count_ones()).sum::<u32>();
         let misfits = |i: usize| match model.threshold(i) as u32 {
             0 => model.kind(i) == VOTE,
