@@ -1,1 +1,2 @@
 pub mod LineRecords
+pub mod Sections

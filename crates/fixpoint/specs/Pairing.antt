@@ -12,15 +12,18 @@ abbrev pub Valid : (𝓥 : Values) → 𝓥 .C → Type 0
 Valid 𝓥 x = (𝓥 ._⊑_ (𝓥 .bot) x) × (𝓥 ._⊑_ x (𝓥 .top))
 
 pub record Pairing (𝓥₁ 𝓥₂ 𝓥 : Values) : Type 0 where
+  -- two values side by side, and the two parts of a value
   pub both : 𝓥₁ .C → 𝓥₂ .C → 𝓥 .C
   pub first : 𝓥 .C → 𝓥₁ .C
   pub second : 𝓥 .C → 𝓥₂ .C
+  -- what is between bottom and top stays there, and taking apart undoes putting side by side
   pub both-valid : {x : 𝓥₁ .C} {y : 𝓥₂ .C} → Valid 𝓥₁ x → Valid 𝓥₂ y → Valid 𝓥 (both x y)
   pub first-valid : {z : 𝓥 .C} → Valid 𝓥 z → Valid 𝓥₁ (first z)
   pub second-valid : {z : 𝓥 .C} → Valid 𝓥 z → Valid 𝓥₂ (second z)
   pub first-both : {x : 𝓥₁ .C} {y : 𝓥₂ .C} → Valid 𝓥₁ x → Valid 𝓥₂ y → first (both x y) ≡ x
   pub second-both : {x : 𝓥₁ .C} {y : 𝓥₂ .C} → Valid 𝓥₁ x → Valid 𝓥₂ y → second (both x y) ≡ y
   pub both-parts : {z : 𝓥 .C} → Valid 𝓥 z → both (first z) (second z) ≡ z
+  -- the order and the bounded step go part by part
   pub both-mono : {x x′ : 𝓥₁ .C} {y y′ : 𝓥₂ .C} → Valid 𝓥₁ x → Valid 𝓥₁ x′ → Valid 𝓥₂ y → Valid 𝓥₂ y′
       → 𝓥₁ ._⊑_ x x′ → 𝓥₂ ._⊑_ y y′ → 𝓥 ._⊑_ (both x y) (both x′ y′)
   pub both-step : {a b x : 𝓥₁ .C} {c e y : 𝓥₂ .C} → Valid 𝓥₁ a → Valid 𝓥₁ b → Valid 𝓥₁ x → Valid 𝓥₂ c → Valid 𝓥₂ e → Valid 𝓥₂ y

@@ -15,7 +15,7 @@ use model::misfits;
 use model::one_over;
 use model::one_strays;
 
-// What writing answers.
+// What writing answers, and joining two files, which writes one too.
 pub enum Written {
     Length(usize),
     Refused(Refusal),

@@ -1,15 +1,13 @@
 -- `encoder::put_file` meets its contract: each section is written behind those before it.
 -- Assumes nothing.
-use mathlib.Core.List.{_++_, append-assoc}
-use mathlib.Core.Path.{_≡_, refl, _∙_}
-use Prim.Native.Nat.{_+_, _*_}
+use mathlib.Core.Path.{refl}
+use Prim.Native.Nat.{_*_}
 use native.Mathlib.Omega.{arith}
 use denote.Ref.{now}
-use lib.ListN.{length, length-append}
-use Rattle.model.specs.File.{fileLength, headerBytes, lineRecords, encode}
-use Rattle.numbers.specs.Numbers.{bytesOf, wordBytes}
-use Rattle.model.proofs.RoundTrip.{records-length}
-use Rattle.lists.proofs.Front.{front-part, all-copied}
+use lib.ListN.{length}
+use Rattle.model.specs.File.{fileLength}
+use Rattle.lists.proofs.Front.{all-copied}
+use Rattle.encoder.proofs.Sections.{sections-written}
 use borrow.Author.Needs.{needs}
 use Rattle.encoder.proofs.put_file.Statement.{statement}
 use Rattle.encoder.proofs.put_file.Tie as tie
@@ -63,7 +61,6 @@ same-length : tie.Need-same-length
 same-length c = search needs
 
 returns : tie.Need-returns
-unfolding bytesOf encode
 returns c =
     let at-words = c .before .before in
     let at-lines = at-words .before .before .before .before in
@@ -71,30 +68,18 @@ returns c =
     let at-header = at-signs .before .before .before .before in
     let offsets = at-header .before .before in
     let start = offsets .before .before .before .before .before .before .before in
-    let s = now (start .args .buffer) in
     let signs = now (start .args .signs) in
-    let kinds = now (start .args .kinds) in
-    let records = lineRecords kinds (now (start .args .thresholds)) in
-    let words = now (start .args .words) in
+    let sizes = start .pre in
     let n = start .args .m .lines in
     let d = start .args .m .levels in
-    let k = offsets .before .kinds-at .result in
-    let w = offsets .words-at .result in
-    let sizes = start .pre in
-    let signs-end : 16 + length signs ≡ k = omega (arith, sizes, offsets .before .kinds-at .ensures) in
-    let lines-end : k + 2 * length kinds ≡ w = omega (arith, sizes, offsets .before .kinds-at .ensures, offsets .words-at .ensures) in
-    let words-end : w + 8 * length words ≡ fileLength n d = omega (arith, sizes, offsets .words-at .ensures) in
-    let f₁ = headerBytes n d in
-    let f₂ = f₁ ++ signs in
-    let f₃ = f₂ ++ records in
-    let behind-signs : length f₂ ≡ k = length-append f₁ signs ∙ signs-end in
-    let behind-lines : length f₃ ≡ w = omega (arith, length-append f₂ records, records-length kinds (now (start .args .thresholds))) in
-    let e₂ =
-    front-part f₁ signs s _ _ 16 (length signs) k refl signs-end (at-header .put-header .ensures)
-    (all-copied signs _ _ (at-signs .copy .ensures .1)) in
-    let e₃ = front-part f₂ records s _ _ k (2 * length kinds) w behind-signs lines-end e₂ (at-lines .put-lines .ensures) in
-    front-part f₃ (wordBytes words) s _ _ w (8 * length words) (fileLength n d) behind-lines words-end e₃ (at-words .put-words .ensures)
-    ∙ simp append-assoc
+    let kinds-at = offsets .before .kinds-at in
+    let words-at = offsets .words-at in
+    let kinds = now (start .args .kinds) in
+    let words = now (start .args .words) in
+    sections-written n d signs kinds (now (start .args .thresholds)) words (now (start .args .buffer))
+    (kinds-at .result) (words-at .result) (fileLength n d) (2 * length kinds) (8 * length words)
+    (omega (arith, sizes, kinds-at .ensures)) refl (omega (arith, sizes, kinds-at .ensures, words-at .ensures)) (omega (arith, sizes, words-at .ensures)) _ _ _ _
+    (at-header .put-header .ensures) (all-copied signs _ _ (at-signs .copy .ensures .1)) (at-lines .put-lines .ensures) (at-words .put-words .ensures)
 
 pub put-file-spec : {M : Type 1} → statement M
 put-file-spec =

@@ -1,30 +1,27 @@
 -- `joined_file::put_joined` meets its contract: each section is written behind those before it.
 -- Assumes nothing.
-use mathlib.Core.List.{List, _++_, append-assoc}
-use mathlib.Core.Path.{_≡_, refl, _∙_, ap₂}
+use mathlib.Core.List.{List}
+use mathlib.Core.Path.{_≡_, refl, _∙_, ap, ap₂}
 use Prim.Native.Nat.{ℕ, _+_, _*_}
 use native.Mathlib.Omega.{arith}
 use denote.Ref.{now}
-use lib.ListN.{length, take, drop, length-append, length-drop}
+use lib.ListN.{length, drop, length-append, length-drop}
 use lib.Seq.{length-take-le}
-use Rattle.model.specs.File.{fileLength, headerBytes, lineRecords, encode}
+use Rattle.model.specs.File.{fileLength}
 use Rattle.model.specs.Held.{systemIn}
 use Rattle.model.specs.declared.layout.Model.{Model}
-use Rattle.numbers.specs.Numbers.{bytesOf, wordBytes}
-use Rattle.model.proofs.RoundTrip.{records-length}
 use Rattle.model.proofs.Lines.{every-length}
-use Rattle.lists.proofs.Front.{front-part, part-copied}
+use Rattle.lists.proofs.Front.{part-copied}
+use Rattle.encoder.proofs.Sections.{sections-written}
 use borrow.Author.Needs.{needs}
 use Rattle.joined_file.specs.AtHand.{joinedIn}
 use Rattle.joined_file.proofs.put_joined.Statement.{statement}
 use Rattle.joined_file.proofs.put_joined.Tie as tie
 
 -- a kind for each line of both
-kinds-count : (file : List ℕ) (m : Model) → length (systemIn file m .kinds) ≡ m .lines
-kinds-count file m = every-length _ _ _
-
 both-kinds : (first second : List ℕ) (m k : Model) → length (joinedIn first m second k .kinds) ≡ m .lines + k .lines
-both-kinds first second m k = length-append (systemIn first m .kinds) (systemIn second k .kinds) ∙ ap₂ _+_ (kinds-count first m) (kinds-count second k)
+both-kinds first second m k =
+    length-append (systemIn first m .kinds) (systemIn second k .kinds) ∙ ap₂ _+_ (every-length _ (m .lines) _) (every-length _ (k .lines) _)
 
 add-t10 : tie.Need-add-t10
 add-t10 c = search needs
@@ -87,7 +84,6 @@ same-length : tie.Need-same-length
 same-length c = search needs
 
 returns : tie.Need-returns
-unfolding bytesOf encode
 returns c =
     let at-words = c .before .before in
     let at-lines = at-words .before .before .before .before in
@@ -95,33 +91,23 @@ returns c =
     let at-header = at-signs .before .before .before .before .before in
     let offsets = at-header .before .before in
     let start = offsets .before .before .before .before .before .before .before in
-    let s = now (start .args .buffer) in
     let first = now (start .args .first) in
+    let second = now (start .args .second) in
     let m = start .args .m in
-    let laid = start .pre .0 .first-laid in
-    let n = m .lines + start .args .k .lines in
+    let k = start .args .k in
+    let ready = start .pre .0 in
+    let both = joinedIn first m second k in
+    let n = m .lines + k .lines in
     let d = m .levels in
-    let both = joinedIn first m (now (start .args .second)) (start .args .k) in
-    let signs = take d (drop 16 first) in
-    let records = lineRecords (both .kinds) (both .thresholds) in
-    let k = offsets .before .kinds-at .result in
-    let w = offsets .words-at .result in
-    let signs-long : length signs ≡ d = length-take-le d (drop 16 first) (omega (arith, length-drop 16 first, laid .laid, laid .whole)) in
-    let signs-end : 16 + length signs ≡ k = omega (arith, offsets .before .kinds-at .ensures) in
-    let lines-end : k + 2 * n ≡ w = omega (arith, offsets .before .kinds-at .ensures, offsets .words-at .ensures) in
-    let words-end : w + 8 * (n * d) ≡ fileLength n d = omega (arith, offsets .words-at .ensures) in
-    let f₁ = headerBytes n d in
-    let f₂ = f₁ ++ signs in
-    let f₃ = f₂ ++ records in
-    let all-lines = both-kinds first (now (start .args .second)) m (start .args .k) in
-    let behind-signs : length f₂ ≡ k = length-append f₁ signs ∙ signs-end in
-    let behind-lines : length f₃ ≡ w = omega (arith, length-append f₂ records, records-length (both .kinds) (both .thresholds)) in
-    let e₂ =
-    front-part f₁ signs s _ _ 16 (length signs) k refl signs-end (at-header .put-header .ensures)
-    (part-copied first _ _ 16 16 k d refl (offsets .before .kinds-at .ensures) (at-signs .copy .ensures .1)) in
-    let e₃ = front-part f₂ records s _ _ k (2 * n) w behind-signs lines-end e₂ (at-lines .put-both-lines .ensures) in
-    front-part f₃ (wordBytes (both .words)) s _ _ w (8 * (n * d)) (fileLength n d) behind-lines words-end e₃ (at-words .put-both-words .ensures)
-    ∙ simp append-assoc
+    let kinds-at = offsets .before .kinds-at in
+    let words-at = offsets .words-at in
+    let signs = length-take-le d (drop 16 first) (omega (arith, length-drop 16 first, ready .first-laid .laid, ready .first-laid .whole)) in
+    let kinds = both-kinds first second m k in
+    sections-written n d (both .signs) (both .kinds) (both .thresholds) (both .words) (now (start .args .buffer))
+    (kinds-at .result) (words-at .result) (fileLength n d) (2 * n) (8 * (n * d))
+    (omega (arith, signs, kinds-at .ensures)) (ap (λ (j : ℕ). 2 * j) kinds) (omega (arith, kinds-at .ensures, words-at .ensures)) (omega (arith, words-at .ensures)) _ _ _ _
+    (at-header .put-header .ensures) (part-copied first _ _ 16 16 (kinds-at .result) d refl (kinds-at .ensures) (at-signs .copy .ensures .1))
+    (at-lines .put-both-lines .ensures) (at-words .put-both-words .ensures)
 
 pub put-joined-spec : {M : Type 1} → statement M
 put-joined-spec =
