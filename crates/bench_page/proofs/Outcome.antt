@@ -2,7 +2,7 @@
 -- Assumes nothing.
 use mathlib.Core.List.{List, [], _∷_, _++_}
 use mathlib.Core.Path.{_≡_, refl, sym, _∙_, ap, ap₂, subst}
-use Prim.Native.Nat.{ℕ, _+_, _*_, _^_, _≤_, _<_}
+use Prim.Native.Nat.{ℕ, _+_, _*_, _≤_, _<_}
 use native.Mathlib.Nat.{zero-add}
 use native.Mathlib.Omega.{arith}
 use borrow.Author.Tests.{lt-ltb}
@@ -27,15 +27,12 @@ use Rattle.text.specs.Text.{Puts}
 use Rattle.page_layout.specs.Page.{page}
 use Rattle.bench_page.specs.Says.{pageOf, roomChecks, pageNumber, PageSays}
 use Rattle.bench_page.specs.declared.Paged.the-variants as paged
-use Rattle.bench_page.proofs.Pages.{shown-below, file-page-length, page-number}
+use Rattle.bench_page.proofs.Pages.{file-page-length, page-number}
 
 -- the set that judging found is the one that the page shows; all is the mask of all lines
 module _ (file : List ℕ) {all set count : ℕ} (mask : all ≡ full (linesIn file)) (says : BuiltSays file 0 all (judgement.Found set count)) where
   shown : set ≡ builtAnswer file 0 (full (linesIn file)) .set
   shown = ap (λ (x : Answer). x .set) ((rw mask at says) .answer)
-
-  pub found-below : {m : Model} → Checked file m → set < 2 ^ m .lines
-  found-below known = rw (known .counts .lines, shown) (shown-below file (known .counts .number))
 
 module _ (file buffer : List ℕ) where
   abbrev room : ℕ

@@ -2,21 +2,20 @@
 -- Assumes nothing.
 use mathlib.Core.List.{List, _++_}
 use mathlib.Core.Path.{_≡_, refl, _∙_, ap}
-use Prim.Native.Nat.{ℕ, zero, suc, _+_, _*_, _^_, _≤_, _<_}
+use Prim.Native.Nat.{ℕ, zero, suc, _+_, _*_, _≤_}
 use native.Mathlib.Omega.{arith}
 use borrow.Author.Tests.{le-ltb}
 use lib.ListN.{length}
 use Rattle.answers.specs.Check.{Check, firstOf}
 use Rattle.answers.proofs.Checks.{first-before, before-passes}
 use Rattle.sets.specs.Set.{full}
-use Rattle.sets.proofs.Range.{full-below}
 use Rattle.model.specs.File.{linesIn, decode}
 use Rattle.checker.specs.Checks.{fileNumber}
 use Rattle.checker.proofs.Accepted.{accepted}
 use Rattle.admission.specs.Checks.{boundChecks, boundNumber}
 use Rattle.admission.proofs.Admitted.{never-misplaced}
-use Rattle.routes.specs.Routes.{builtLeast, builtGreatest, nestedSet}
-use Rattle.routes.proofs.Promises.{whole-range, built-nested, restricted-inside}
+use Rattle.routes.specs.Routes.{nestedSet}
+use Rattle.routes.proofs.Promises.{whole-range, built-nested}
 use Rattle.solver.specs.Checks.{builtNumber}
 use Rattle.solver.specs.Says.{builtAnswer}
 use Rattle.page_layout.specs.Page.{page}
@@ -28,19 +27,12 @@ module _ (file : List ℕ) (accepted-file : fileNumber file ≡ 0) where
   judged-whole : builtNumber file 0 (full (linesIn file)) ≡ 0
   judged-whole = never-misplaced file ∙ accepted-file
 
-  pub shown-below : builtAnswer file 0 (full (linesIn file)) .set < 2 ^ linesIn file
-  unfolding decode
-  shown-below =
-      let s = decode file in
-      let inside = restricted-inside s 0 (full (linesIn file)) (whole-range (linesIn file)) (builtLeast s (s .lines)) (builtGreatest s (s .lines)) in
-      rw judged-whole (full-below (linesIn file) _ (inside .below))
-
   -- the page of an accepted file has n + 1 rows
   pub file-page-length : length (pageOf file) ≡ 41 * (linesIn file + 1)
   unfolding pageOf decode
   file-page-length =
       let header = accepted file accepted-file .header in
-      page-length (decode file) (builtAnswer file 0 (full (linesIn file)) .set) (header .lines-most) (header .levels-most) shown-below
+      page-length (decode file) (builtAnswer file 0 (full (linesIn file)) .set) (header .lines-most) (header .levels-most)
 
   -- so no page is longer than that of 64 lines
   pub longest-page : 41 * (linesIn file + 1) ≤ 2665

@@ -18,7 +18,7 @@ use Rattle.answers.specs.Check.{Check, firstOf}
 use Rattle.answers.proofs.Checks.{Passes, passes-both, none-first, after-none, inside}
 use Rattle.lists.proofs.Below.{below-entries}
 use Rattle.system.specs.Query.{VotesNeed}
-use Rattle.system.specs.Joined.{WellFormed}
+use Rattle.system.specs.System.{WellFormed}
 use Rattle.model.specs.File.{kindsAt, linesIn, levelsIn, wordsIn, lineBytes, highestKind, sections, decode}
 use Rattle.model.specs.Checks.{some, strays, misfits, thresholdMisfits}
 use Rattle.model.specs.Held.{LaidOut, Held}

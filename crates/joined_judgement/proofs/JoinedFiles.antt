@@ -19,9 +19,9 @@ use Rattle.lists.proofs.Below.{below-wider}
 use Rattle.sets.specs.Set.{full}
 use Rattle.sets.proofs.Order.{le-within}
 use Rattle.sets.proofs.Range.{below-full}
-use Rattle.system.specs.System.{System}
+use Rattle.system.specs.System.{System, WellFormed}
 use Rattle.system.specs.Query.{wordsOf, operandCount}
-use Rattle.system.specs.Joined.{joined, WellFormed, Joinable}
+use Rattle.system.specs.Joined.{joined, Joinable}
 use Rattle.system.proofs.JoinedLines.{entry-first, entry-second, words-first, words-second}
 use Rattle.system.proofs.Joined.{operands-moved, joined-formed}
 use Rattle.model.specs.File.{fileLength, decode, encode}

@@ -12,8 +12,8 @@ use Rattle.answers.specs.Answer.{numberOf}
 use Rattle.answers.specs.Check.{Check, firstOf, unless}
 use Rattle.answers.specs.declared.Refusal.{Refusal}
 use Rattle.answers.specs.declared.Refusal.the-variants.{Lines, Room, LevelsDiffer}
-use Rattle.system.specs.System.{System, Sliced}
-use Rattle.system.specs.Joined.{joined, WellFormed}
+use Rattle.system.specs.System.{System, Sliced, WellFormed}
+use Rattle.system.specs.Joined.{joined}
 use Rattle.system.proofs.Joined.{joined-formed}
 use Rattle.model.specs.File.{kindsAt, fileLength, decode, encode}
 use Rattle.model.specs.Checks.{someBelow}

@@ -10,8 +10,8 @@ use lib.ListN.{length, getD}
 use Rattle.answers.specs.Answer.{Answer}
 use Rattle.answers.specs.Check.{Check, unless}
 use Rattle.answers.proofs.Checks.{passes-both, passes-none, none-first, same}
-use Rattle.system.specs.System.{System}
-use Rattle.system.specs.Joined.{joined, WellFormed, Joinable}
+use Rattle.system.specs.System.{System, WellFormed}
+use Rattle.system.specs.Joined.{joined, Joinable}
 use Rattle.model.specs.File.{fileLength, decode}
 use Rattle.model.specs.Checks.{someBelow}
 use Rattle.model.specs.Says.{made}

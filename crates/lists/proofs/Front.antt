@@ -1,12 +1,13 @@
--- Filling a list from the front, or from the back: what is written so far, and what the list still holds beside it.
+-- Filling a list from the front, or from the back: what is written so far, and what the list still holds beside it, or the entries so far alone.
 -- Assumes nothing.
 use mathlib.Core.List.{List, [], _∷_, _++_, append-assoc, append-nil}
 use mathlib.Core.Path.{_≡_, sym, _∙_, ap, ap₂}
 use Prim.Native.Nat.{ℕ, suc, _+_, _-_, _<_}
+use native.Mathlib.Decide.{decLt}
 use native.Mathlib.Numerals.{add-one}
 use native.Mathlib.Omega.{arith}
 use lib.ListN.{length, getD, set, take, drop, length-drop, drop-of-length-le}
-use lib.Seq.{drop-cons, set-at, append-snoc, take-all, take-suc, take-length, take-at, drop-at, drop-drop, length-take-le}
+use lib.Seq.{getD-set-same, getD-set-other, drop-cons, set-at, append-snoc, take-all, take-suc, take-length, take-at, drop-at, drop-drop, length-take-le}
 use borrow.Rule.Slice.PartMut.{midOf, putMid}
 
 -- one more entry is stored; s is what the list held, l what it holds now
@@ -53,3 +54,12 @@ pub back-store : (s l rest : List ℕ) (i v : ℕ) → i < length s → l ≡ ta
 back-store s l rest i v h held =
     ap (λ (r : List ℕ). set r i v) (held ∙ ap (λ (r : List ℕ). r ++ rest) (take-suc s i 0 h) ∙ append-snoc (take i s) (getD s i 0) rest)
     ∙ set-at (take i s) (getD s i 0) rest v i (length-take-le i s (omega arith))
+
+-- the first i entries are those of f, and one more is stored
+pub entries-more : (f : ℕ → ℕ) (l : List ℕ) (i v : ℕ) → i < length l → v ≡ f i → ((j : ℕ) → j < i → getD l j 0 ≡ f j)
+    → (j : ℕ) → j < i + 1 → getD (set l i v) j 0 ≡ f j
+entries-more f l i v room e before j h = at (decLt j i)
+  where
+    at : Dec (j < i) → getD (set l i v) j 0 ≡ f j
+    at (yes p) = getD-set-other l i j v 0 (λ (q : j ≡ i). omega arith) ∙ before j p
+    at (no p) = let same : j ≡ i = omega arith in rw same (getD-set-same l i v 0 room ∙ e)

@@ -5,9 +5,9 @@ use mathlib.Core.Bool.{Bool, cond}
 use mathlib.Core.List.{List, [], _∷_, _++_}
 use Prim.Native.Nat.{ℕ, zero, suc}
 use lib.ListN.{getD}
-use Rattle.sets.specs.Set.{isMember, members}
+use Rattle.sets.specs.Set.{isMember}
 use Rattle.system.specs.System.{System}
-use Rattle.share.specs.Share.{shareOf}
+use Rattle.met_lines.specs.MetLines.{metShare}
 use Rattle.text.specs.Text.{decimal}
 use Rattle.padding.specs.Padding.{setRight, setLeft}
 
@@ -58,7 +58,7 @@ unfoldable pub rowsOf : ℕ → (ℕ → List ℕ) → List ℕ
 rowsOf zero rowAt = []
 rowsOf (suc n) rowAt = rowsOf n rowAt ++ rowAt n
 
--- the page of a system with these good lines
+-- the page of a system with these good lines; each line has its row, and the share is of those that can be met (request W7)
 unfoldable pub page : System → ℕ → List ℕ
 page m good =
-    firstRow (m .lines) (m .levels) (shareOf (members good) (m .lines)) ++ rowsOf (m .lines) (λ i. lineRow i (getD (m .kinds) i 0) (isMember good i))
+    firstRow (m .lines) (m .levels) (metShare m good) ++ rowsOf (m .lines) (λ i. lineRow i (getD (m .kinds) i 0) (isMember good i))

@@ -1,6 +1,6 @@
 // The bench page of a system with its good lines, put into a buffer. Definitions: specs/.
 ghost use mathlib.Core.List.{[], _∷_, _++_};
-ghost use Prim.Native.Nat.{_+_, _-_, _*_, _^_, _≤_, _<_};
+ghost use Prim.Native.Nat.{_+_, _-_, _*_, _≤_, _<_};
 ghost use lib.ListN.{length, getD};
 ghost use Rattle.sets.specs.Set.{isMember};
 ghost use Rattle.model.specs.Held.{LaidOut, systemIn};
@@ -99,11 +99,11 @@ fn put_line_rows(file: &[u8], m: Model, good: u64, out: &mut [u8], at: usize) ->
 // The page of a file with these good lines, at the front.
 pub fn put_page(file: &[u8], m: Model, good: u64, out: &mut [u8]) -> usize
     requires { ⌜ LaidOut (now file) m ⌝ }
-    requires { ⌜ good < 2 ^ m .lines ⌝ }
+    requires { ⌜ 1 ≤ m .lines ⌝ }
     requires { ⌜ 41 * (m .lines + 1) ≤ length (now out) ⌝ }
     ensures { λ r. ⌜ Puts 0 (page (systemIn (now (file .entry)) m) good) (now (out .entry)) (now (out .exit)) r ⌝ }
 {
-    let share = share::share_of(sets::member_count(good), m.lines as u32);
+    let share = met_lines::met_share(file, m, good);
     let rows = put_first_row(out, m, share);
     put_line_rows(file, m, good, out, rows)
 }

@@ -6,7 +6,9 @@ use Prim.Native.Nat.{ℕ, min}
 use Rattle.answers.specs.Answer.{Answer, numberOf}
 use Rattle.answers.specs.declared.Refusal.{Refusal}
 use Rattle.sets.specs.Set.{full}
-use Rattle.model.specs.File.{linesIn, decode}
+use Rattle.system.specs.System.{System}
+use Rattle.model.specs.File.{decode}
+use Rattle.model.specs.Held.{systemIn}
 use Rattle.checker.specs.Checks.{fileNumber}
 use Rattle.model.specs.declared.layout.Model.{Model}
 use Rattle.model.proofs.Refusals.{RefusedAs}
@@ -25,11 +27,11 @@ module _ (file : List ℕ) where
 
   -- the three lines, from what the file's check, its mask of all lines and both judgings say
   pub accepted-text : {m : Model} {all : ℕ} {p t : Judged} → Checked file m → all ≡ full (min (m .lines) 64) → PlainSays file 0 all 1000000 p → BuiltSays file 0 all t
-      → plainWord ++ (answerLine (judgedAnswer p) ++ (treeWord ++ (answerLine (judgedAnswer t) ++ shareLine (judgedAnswer t .set) (m .lines)))) ≡ reportText file
+      → plainWord ++ (answerLine (judgedAnswer p) ++ (treeWord ++ (answerLine (judgedAnswer t) ++ shareLine (systemIn file m) (judgedAnswer t .set)))) ≡ reportText file
   unfolding reportText decode
   accepted-text {m} {all} {p} {t} known mask plain tree =
       let lines = all-lines file known mask in
-      let last : Answer → List ℕ = λ x. treeWord ++ (answerLine x ++ shareLine (x .set) (linesIn file)) in
-      ap (λ (n : ℕ). plainWord ++ (answerLine (judgedAnswer p) ++ (treeWord ++ (answerLine (judgedAnswer t) ++ shareLine (judgedAnswer t .set) n)))) (known .counts .lines)
+      let last : Answer → List ℕ = λ x. treeWord ++ (answerLine x ++ shareLine (decode file) (x .set)) in
+      ap (λ (s : System). plainWord ++ (answerLine (judgedAnswer p) ++ (treeWord ++ (answerLine (judgedAnswer t) ++ shareLine s (judgedAnswer t .set))))) (known .system)
       ∙ ap₂ (λ (x y : Answer). plainWord ++ (answerLine x ++ last y)) ((rw lines at plain) .answer) ((rw lines at tree) .answer)
       ∙ ap (λ (e : ℕ). textOrRefused e (threeLines file)) (sym (known .counts .number))

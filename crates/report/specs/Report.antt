@@ -6,11 +6,12 @@ use Prim.Native.Nat.{ℕ}
 use lib.Dec.{ltb}
 use lib.ListN.{length}
 use Rattle.answers.specs.Answer.{Answer}
-use Rattle.sets.specs.Set.{full, members}
+use Rattle.sets.specs.Set.{full}
+use Rattle.system.specs.System.{System}
 use Rattle.model.specs.File.{decode}
+use Rattle.met_lines.specs.MetLines.{metShare}
 use Rattle.checker.specs.Checks.{fileNumber}
 use Rattle.solver.specs.Says.{plainAnswer, builtAnswer}
-use Rattle.share.specs.Share.{shareOf}
 use Rattle.text.specs.Text.{hex, numberLine, textOrRefused}
 
 -- the words of the output, in ASCII, each with a blank behind it
@@ -31,17 +32,17 @@ foundLine set count = hex set ++ numberLine (32 ∷ []) count
 abbrev pub answerLine : Answer → List ℕ
 answerLine x = textOrRefused (x .number) (foundLine (x .set) (x .count))
 
--- the line of the share of a set in n lines
-abbrev pub shareLine : ℕ → ℕ → List ℕ
-shareLine set n = numberLine shareWord (shareOf (members set) n)
+-- the line of a model's share, for these good lines: of the lines that can be met (request W7)
+abbrev pub shareLine : System → ℕ → List ℕ
+shareLine m good = numberLine shareWord (metShare m good)
 
 -- the three lines for a file: both judgings from no line to all, plainly under a ceiling of 1,000,000
 abbrev pub threeLines : List ℕ → List ℕ
 threeLines file =
-    let n = decode file .lines in
-    let plain = plainAnswer file 0 (full n) 1000000 in
-    let tree = builtAnswer file 0 (full n) in
-    plainWord ++ (answerLine plain ++ (treeWord ++ (answerLine tree ++ shareLine (tree .set) n)))
+    let m = decode file in
+    let plain = plainAnswer file 0 (full (m .lines)) 1000000 in
+    let tree = builtAnswer file 0 (full (m .lines)) in
+    plainWord ++ (answerLine plain ++ (treeWord ++ (answerLine tree ++ shareLine m (tree .set))))
 
 unfoldable pub reportText : List ℕ → List ℕ
 reportText file = textOrRefused (fileNumber file) (threeLines file)

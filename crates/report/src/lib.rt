@@ -1,9 +1,11 @@
 // The judging program's text for an input. Definitions: specs/.
 ghost use Prim.Native.Nat.{_+_, _≤_};
 ghost use lib.ListN.{length};
+ghost use Rattle.model.specs.Held.{LaidOut, systemIn};
 ghost use Rattle.solver.specs.Says.{judgedAnswer};
 ghost use Rattle.text.specs.Text.{Puts};
 ghost use Rattle.report.specs.Report.{foundLine, answerLine, shareLine, madeText};
+use model::Model;
 use model::Reading;
 use solver::Judged;
 use text::put;
@@ -37,16 +39,17 @@ fn put_judged(out: &mut [u8], at: usize, j: Judged) -> usize
     }
 }
 
-// The share's line for a judgement of n lines.
-fn put_share(out: &mut [u8], at: usize, j: Judged, n: usize) -> usize
-    requires { ⌜ (at + 27 ≤ length (now out)) × (n ≤ 64) ⌝ }
-    ensures { λ r. ⌜ Puts at (shareLine (judgedAnswer j .set) n) (now (out .entry)) (now (out .exit)) r ⌝ }
+// The share's line for a file's judgement.
+fn put_share(file: &[u8], m: Model, j: Judged, out: &mut [u8], at: usize) -> usize
+    requires { ⌜ LaidOut (now file) m ⌝ }
+    requires { ⌜ (1 ≤ m .lines) × (at + 27 ≤ length (now out)) ⌝ }
+    ensures { λ r. ⌜ Puts at (shareLine (systemIn (now (file .entry)) m) (judgedAnswer j .set)) (now (out .entry)) (now (out .exit)) r ⌝ }
 {
-    let set = match j {
+    let good = match j {
         Judged::Found { set, count: _ } => set,
         Judged::Refused(_) => 0,
     };
-    let share = share::share_of(sets::member_count(set), n as u32);
+    let share = met_lines::met_share(file, m, good);
     put_number_line(out, at, b"share ", share)
 }
 
@@ -69,5 +72,5 @@ pub fn report(file: &[u8], out: &mut [u8]) -> usize
     let judged = solver::solve_built(file, 0, all);
     let tree = put(out, plain_end, b"tree ");
     let tree_end = put_judged(out, tree, judged);
-    put_share(out, tree_end, judged, m.lines)
+    put_share(file, m, judged, out, tree_end)
 }

@@ -14,9 +14,9 @@ use Rattle.fixpoint.specs.Nested.{nested}
 use Rattle.fixpoint.specs.Pairing.{none}
 use Rattle.fixpoint.specs.Sets.{sets}
 use Rattle.fixpoint.proofs.SideBySide.{nested-beside}
-use Rattle.system.specs.System.{System, sign}
+use Rattle.system.specs.System.{System, sign, WellFormed}
 use Rattle.system.specs.Query.{query}
-use Rattle.system.specs.Joined.{joined, WellFormed, Joinable}
+use Rattle.system.specs.Joined.{joined, Joinable}
 use Rattle.system.proofs.Monotone.{query-monotone, query-below}
 use Rattle.system.proofs.Joined.{query-joined}
 use Rattle.routes.specs.Routes.{nestedSet}

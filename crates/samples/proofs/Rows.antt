@@ -11,10 +11,12 @@ use Rattle.fixpoint.specs.Restricted.{restricted, level, rise, fall, sumOver, l
 use Rattle.fixpoint.specs.Plain.{thenRounds, settle, plain}
 use Rattle.system.specs.Query.{selected, operands, setOf, query}
 use Rattle.share.specs.Rounding.{rounded}
+use Rattle.reach.specs.Search.{successors, rounds}
+use Rattle.met_lines.specs.MetLines.{unionOf, metLines, metShare}
 use Rattle.text.specs.Text.{digits, places}
 use Rattle.page_layout.specs.Page.{rowsOf, page}
 use Rattle.samples.specs.Table.{table, Holds}
 
 pub samples-hold : Holds table
-unfolding table nested extreme restricted level rise fall sumOver levelQueries restrictedQueries thenRounds settle plain leastAmong greatestAmong built halvedChildren leafCount grow children meetPreFixed joinPostFixed selected operands setOf query ones digits places rounded rowsOf page
-samples-hold = (refl, (refl, (refl, (refl, (refl, (refl, (refl, (refl, (refl, (refl, (refl, (refl, (refl, (refl, (refl, (refl, (refl, (refl, (refl, (refl, (refl, (refl, (refl, (refl, (refl, tt)))))))))))))))))))))))))
+unfolding table nested extreme restricted level rise fall sumOver levelQueries restrictedQueries thenRounds settle plain leastAmong greatestAmong built halvedChildren leafCount grow children meetPreFixed joinPostFixed selected operands setOf query ones digits places rounded successors rounds unionOf metLines metShare rowsOf page
+samples-hold = (refl, (refl, (refl, (refl, (refl, (refl, (refl, (refl, (refl, (refl, (refl, (refl, (refl, (refl, (refl, (refl, (refl, (refl, (refl, (refl, (refl, (refl, (refl, (refl, (refl, (refl, (refl, (refl, tt))))))))))))))))))))))))))))

@@ -2,6 +2,7 @@
 -- Assumes nothing.
 use mathlib.Core.List.{List, [], _∷_}
 use Prim.Native.Nat.{ℕ}
+use lib.ListN.{replicate}
 use Rattle.system.specs.System.{System, systemOf}
 
 -- line 0 is all of (level 1, line 1); line 1 is any of (level 2, line 0)
@@ -33,3 +34,16 @@ pyrometers t = systemOf 4 2 (0 ∷ 1 ∷ []) (2 ∷ 1 ∷ 0 ∷ 0 ∷ []) (t ∷
 -- a vote of two operands that are the same line at two levels: line 0 votes (level 1, line 1) and (level 2, line 1), and line 1 is all of none
 abbrev pub oneLineTwice : System
 oneLineTwice = systemOf 2 2 (0 ∷ 1 ∷ []) (2 ∷ 1 ∷ []) (2 ∷ 0 ∷ []) (2 ∷ 2 ∷ 0 ∷ 0 ∷ [])
+
+-- Spare lines (request W7), at one least level: line 0 is all of lines 1 and 2, line 1 all of none, and line 2 any of itself. Lines 3 and 4 are no line's operands;
+-- line 3 is all of none, line 4 all of lines 0 and 3.
+abbrev pub spares : System
+spares = systemOf 5 1 (0 ∷ []) (1 ∷ 1 ∷ 0 ∷ 1 ∷ 1 ∷ []) (0 ∷ 0 ∷ 0 ∷ 0 ∷ 0 ∷ []) (6 ∷ 0 ∷ 4 ∷ 0 ∷ 9 ∷ [])
+
+-- a line that is met at level 2 alone: line 0 is any of (level 2, line 2), line 2 any of (level 1, line 0), and line 1, a spare, all of (level 1, line 0)
+abbrev pub metAtLevel2 : System
+metAtLevel2 = systemOf 3 2 (0 ∷ 1 ∷ []) (0 ∷ 1 ∷ 0 ∷ []) (0 ∷ 0 ∷ 0 ∷ []) (0 ∷ 4 ∷ 1 ∷ 0 ∷ 1 ∷ 0 ∷ [])
+
+-- sixteen lines that can be met and two spares: line 0 is all of lines 1 to 15, and every other line is all of none
+abbrev pub sixteenMet : System
+sixteenMet = systemOf 18 1 (0 ∷ []) (replicate 18 1) (replicate 18 0) (65534 ∷ replicate 17 0)

@@ -8,8 +8,9 @@ use Rattle.system.specs.System.{System}
 use Rattle.system.specs.Joined.{joined}
 use Rattle.routes.specs.Routes.{builtLeast, builtGreatest, nestedSet, plainRun, restrictedSet, restrictedCount}
 use Rattle.share.specs.Share.{shareOf}
+use Rattle.met_lines.specs.MetLines.{metLines, metShare}
 use Rattle.page_layout.specs.Page.{page}
-use Rattle.samples.specs.Models.{P, Q, one, deadEnds, pyrometers, oneLineTwice}
+use Rattle.samples.specs.Models.{P, Q, one, deadEnds, pyrometers, oneLineTwice, spares, metAtLevel2, sixteenMet}
 
 -- what the definitions give, and what the papers say or what follows from them by hand
 pub record Row : Type 0 where
@@ -81,6 +82,13 @@ table =
     -- P, with the set 3, and the pyrometers behind it, with the set 7: 3 + 4 * 7. Level 1 settles in its third round, as it does in both alone, and level 2 in
     -- its second, as in the pyrometers alone. S(6, 1) has six leaves.
     row (plainly (joined P (pyrometers 2)) 0 63 ++ overBuilt (joined P (pyrometers 2)) 0 63) (31 ∷ 31 ∷ 6 ∷ 31 ∷ 36 ∷ []) ∷
+    -- Lines that can be met from line 0 (request W7): both of P, line 0 alone where it has no operands, of joined models those of the first, and a line that
+    -- is an operand at level 2 alone.
+    row (metLines P ∷ metLines (deadEnds 0) ∷ metLines (joined P (pyrometers 2)) ∷ metLines metAtLevel2 ∷ []) (3 ∷ 1 ∷ 3 ∷ 5 ∷ []) ∷
+    -- Lines 1 and 3 are good. Lines 0 to 2 can be met, so one good line of three counts; of all five lines two are good, which would be 400.
+    row (nestedSet spares 0 31 ∷ metLines spares ∷ metShare spares (nestedSet spares 0 31) ∷ []) (10 ∷ 7 ∷ 333 ∷ []) ∷
+    -- one good line and three good lines of the sixteen that can be met, and one with both spares good beside it
+    row (metShare sixteenMet 32768 ∷ metShare sixteenMet 57344 ∷ metShare sixteenMet 229376 ∷ []) (62 ∷ 188 ∷ 62 ∷ []) ∷
     []
 
 -- every row of a table holds

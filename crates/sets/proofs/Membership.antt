@@ -2,9 +2,10 @@
 -- all of the lines, and a word without its lowest member.
 -- Assumes nothing.
 use mathlib.Core.Bool.{Bool, true, false, cond, not, _&&_, _||_}
+use mathlib.Core.Logic.{_⊎_, inl, inr}
 use mathlib.Core.Path.{_≡_, refl, sym, _∙_, ap}
-use Prim.Native.Nat.{ℕ, zero, suc, _-_, _/_, _%_, _^_, min, max, _<_}
-use native.Mathlib.Nat.{div-eq-of-lt}
+use Prim.Native.Nat.{ℕ, zero, suc, _*_, _-_, _/_, _%_, _^_, min, max, _<_}
+use native.Mathlib.Nat.{one-mul, div-eq-of-lt, mod-eq-of-lt}
 use native.Mathlib.Omega.{arith}
 use lib.Bits.{bitXor, differ, xor-shr, xor-step, and-step, and-self}
 use lib.Count.{trailingZeros, under}
@@ -58,6 +59,17 @@ member-meet a b i = ap (λ (x : ℕ). eqb x 1) (digit-meet a b i) ∙ min-both (
 pub member-join : (a b i : ℕ) → isMember (union a b) i ≡ (isMember a i || isMember b i)
 member-join a b i = ap (λ (x : ℕ). eqb x 1) (digit-join a b i) ∙ max-either (digit a i) (digit b i) (small a i) (small b i)
 
+-- a member of both, and of one or the other
+pub in-both : (a b i : ℕ) → isMember a i ≡ true → isMember b i ≡ true → isMember (intersection a b) i ≡ true
+in-both a b i h l = member-meet a b i ∙ rw (h, l)
+
+pub in-either : (a b i : ℕ) → isMember (union a b) i ≡ true → (isMember a i ≡ true) ⊎ (isMember b i ≡ true)
+in-either a b i h = go (isMember a i) refl
+  where
+    go : (t : Bool) → isMember a i ≡ t → (isMember a i ≡ true) ⊎ (isMember b i ≡ true)
+    go true e = inl e
+    go false e = inr (rw (member-join a b i, e) at h)
+
 -- the lines in one of two sets and not in both
 pub member-differ : (a b i : ℕ) → isMember (bitXor a b) i ≡ cond (isMember a i) (not (isMember b i)) (isMember b i)
 member-differ a b i =
@@ -76,6 +88,10 @@ digit-power (suc m) (suc i) =
     let half : 2 ^ suc m / 2 ≡ 2 ^ m = omega (arith, pow-add 2 1 m) in
     let e : digit (2 ^ suc m) (suc i) ≡ digit (2 ^ m) i = sym (digit-half (2 ^ suc m) i) ∙ ap (λ (x : ℕ). digit x i) half in
     (λ q. e ∙ ih .0 (omega arith), λ ne. e ∙ ih .1 (λ q. ne (ap suc q)))
+
+-- one, shifted by less than a word's width
+pub one-shifted : (i : ℕ) → i < 64 → 1 * 2 ^ i % 2 ^ 64 ≡ 2 ^ i
+one-shifted i h = ap (λ (x : ℕ). x % 2 ^ 64) (one-mul (2 ^ i)) ∙ mod-eq-of-lt (pow-lt h)
 
 pub member-power : (m i : ℕ) → isMember (2 ^ m) i ≡ eqb i m
 member-power m i = go (eqb i m) refl

@@ -13,9 +13,9 @@ use Rattle.lists.proofs.Below.{below-append, below-wider, below-map}
 use Rattle.sets.specs.SideBySide.{movedUp, sideBySide}
 use Rattle.sets.proofs.SideBySide.{beside-below, members-moved}
 use Rattle.fixpoint.specs.Pairing.{setsAlongside, SetsBeside}
-use Rattle.system.specs.System.{System}
+use Rattle.system.specs.System.{System, WellFormed}
 use Rattle.system.specs.Query.{valueOf, operandCount, lineValue, query}
-use Rattle.system.specs.Joined.{joined, WellFormed, Joinable}
+use Rattle.system.specs.Joined.{joined, Joinable}
 use Rattle.system.proofs.LineSets.{set-same-values}
 use Rattle.system.proofs.JoinedLines.{entry-first, entry-second, set-beside, bits-first, bits-second}
 

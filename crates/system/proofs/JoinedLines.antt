@@ -10,16 +10,15 @@ use lib.Bits.{or-zero-r}
 use lib.ListN.{length, getD, take, drop, length-drop, List·getD-append}
 use lib.Pow.{pow-pos, pow-add}
 use lib.Seq.{take-append-le, drop-append-le, drop-append-add, getD-append-add}
-use Rattle.lists.specs.Below.{AllBelow}
-use Rattle.lists.proofs.Below.{below-take, below-drop}
 use Rattle.sets.specs.Set.{union}
 use Rattle.sets.specs.SideBySide.{movedUp, sideBySide}
 use Rattle.sets.proofs.SideBySide.{beside-join}
 use Rattle.fixpoint.specs.Pairing.{setsAlongside, SetsBeside}
-use Rattle.system.specs.System.{System}
+use Rattle.system.specs.System.{System, WellFormed}
 use Rattle.system.specs.Query.{operands, wordsOf, setOf}
-use Rattle.system.specs.Joined.{joined, WellFormed, Joinable}
+use Rattle.system.specs.Joined.{joined, Joinable}
 use Rattle.system.proofs.Monotone.{set-below}
+use Rattle.system.proofs.Formed.{line-words-below}
 use Rattle.system.proofs.Selected.{operands-first, operands-second}
 
 -- parts of a list that is mapped
@@ -58,10 +57,6 @@ set-beside n₁ (suc n₂) p =
     moved : (t : Bool) → one (n₁ + n₂) t ≡ sideBySide n₁ 0 (one n₂ t)
     moved true = pow-add 2 n₁ n₂ ∙ sym (zero-add (2 ^ n₁ * 2 ^ n₂))
     moved false = omega arith
-
--- the words of a line of a well-formed system select no line that it does not have
-line-words-below : (m : System) → WellFormed m → (i : ℕ) → AllBelow (2 ^ m .lines) (wordsOf m i)
-line-words-below m W i = below-take (m .levels) (below-drop (i * m .levels) (W .words-within))
 
 module _ (m₁ m₂ : System) (W₁ : WellFormed m₁) (W₂ : WellFormed m₂) (J : Joinable m₁ m₂) where
   -- a line of the first system keeps its words, those of a line of the second are moved up

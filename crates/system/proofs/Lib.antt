@@ -1,6 +1,7 @@
 pub mod Monotone
 pub mod LineSets
 pub mod Masks
+pub mod Formed
 pub mod WithoutOperands
 pub mod Selected
 pub mod JoinedLines

@@ -24,10 +24,6 @@ pub set-same : (p : ℕ → Bool) (i : ℕ) → p i ≡ false → setOf i p ≡ 
 unfolding setOf
 set-same p i e = rw (add-one i, e, or-zero-r)
 
--- the word of one line
-pub one-shifted : (i : ℕ) → i < 64 → 1 * 2 ^ i % 2 ^ 64 ≡ 2 ^ i
-one-shifted i h = ap (λ (x : ℕ). x % 2 ^ 64) (one-mul (2 ^ i)) ∙ mod-eq-of-lt (pow-lt h)
-
 -- the set goes by the values of its lines
 pub set-same-values : (n : ℕ) (p q : ℕ → Bool) → ((i : ℕ) → i < n → p i ≡ q i) → setOf n p ≡ setOf n q
 unfolding setOf

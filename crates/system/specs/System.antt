@@ -4,9 +4,10 @@
 use mathlib.Core.Bool.{Bool}
 use mathlib.Core.List.{List}
 use mathlib.Core.Path.{_≡_}
-use Prim.Native.Nat.{ℕ, _*_}
+use Prim.Native.Nat.{ℕ, _*_, _^_}
 use lib.Dec.{eqb}
 use lib.ListN.{length, getD}
+use Rattle.lists.specs.Below.{AllBelow}
 
 pub record System : Type 0 where
   pub lines : ℕ
@@ -33,3 +34,8 @@ pub record Sliced (m : System) : Type 0 where
   pub kinds-long : length (m .kinds) ≡ m .lines
   pub thresholds-long : length (m .thresholds) ≡ m .lines
   pub words-long : length (m .words) ≡ m .lines * m .levels
+
+-- a system whose slices are so long, and none of whose words selects a line that it does not have
+pub record WellFormed (m : System) : Type 0 where
+  pub sliced : Sliced m
+  pub words-within : AllBelow (2 ^ m .lines) (m .words)

@@ -11,7 +11,7 @@ use Rattle.checker.proofs.Accepted.{Checked, checked, refused, all-lines}
 use Rattle.solver.specs.Says.{BuiltSays}
 use Rattle.solver.specs.declared.Judged.{Judged}
 use Rattle.solver.specs.declared.Judged.the-variants as judgement
-use Rattle.bench_page.proofs.Outcome.{file-refused, judging-refused, short-buffer, found-below, page-made}
+use Rattle.bench_page.proofs.Outcome.{file-refused, judging-refused, short-buffer, page-made}
 use borrow.Author.Needs.{needs}
 use Rattle.bench_page.proofs.make_page.Statement.{statement}
 use Rattle.bench_page.proofs.make_page.Tie as tie
@@ -82,11 +82,8 @@ returns-3 c = short-buffer _ _ (mask (masked (c .before .before))) (known (told 
 
 put-page-requires : tie.Need-put-page-requires
 put-page-requires c κs =
-    let judged = c .before .before .before in
-    let whole = known (told judged) in (
-      whole .laid-out,
-      (found-below _ (mask (masked judged)) (found judged) whole, c .before .if1 .left),
-    )
+    let whole = known (told (c .before .before .before)) in
+    (whole .laid-out, (omega (arith, whole .counts .lines, whole .accepted .header .lines-least), c .before .if1 .left))
 
 same-length : tie.Need-same-length
 same-length c = search needs

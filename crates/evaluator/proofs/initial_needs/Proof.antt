@@ -3,12 +3,11 @@
 use mathlib.Core.List.{List}
 use mathlib.Core.Path.{_≡_, refl, sym, _∙_}
 use Prim.Native.Nat.{ℕ, zero, suc, _-_, _≤_, _<_}
-use native.Mathlib.Decide.{decLt}
 use native.Mathlib.Omega.{arith}
 use denote.Ref.{now}
 use borrow.Author.Needs.{needs}
 use lib.ListN.{length, getD, length-set, replicate, getD-replicate}
-use lib.Seq.{getD-set-same, getD-set-other}
+use Rattle.lists.proofs.Front.{entries-more}
 use Rattle.model.specs.Held.{systemIn}
 use Rattle.model.specs.declared.layout.Model.{Model}
 use Rattle.model.proofs.Places.{header-whole, old-threshold}
@@ -70,13 +69,7 @@ loop-again c =
     record {
       few = omega arith;
       long = length-set (l .needs) (l .i) (c .line-need .result) ∙ l .inv .long;
-      passed = λ j h.
-          elim (decLt j (l .i)) [
-            | yes before ↦ getD-set-other (l .needs) (l .i) j (c .line-need .result) 0 (λ (e : j ≡ l .i). omega arith) ∙ l .inv .passed j before
-            | no behind ↦
-                let same : j ≡ l .i = omega arith in
-                rw same (getD-set-same (l .needs) (l .i) (c .line-need .result) 0 (omega (arith, l .inv .long)) ∙ c .line-need .ensures)
-          ];
+      passed = entries-more (lineNeeds (systemIn (now (start .args .file)) (start .args .m))) (l .needs) (l .i) (c .line-need .result) (omega (arith, l .inv .long)) (c .line-need .ensures) (l .inv .passed);
     }
 
 returns-2 : tie.Need-returns-2 Inv-loop μ-loop

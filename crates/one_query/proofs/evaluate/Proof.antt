@@ -12,6 +12,7 @@ use native.Mathlib.Numerals.{add-one}
 use native.Mathlib.Omega.{arith}
 use lib.ListN.{take, drop}
 use Rattle.sets.specs.Set.{union}
+use Rattle.sets.proofs.Membership.{one-shifted}
 use Rattle.system.specs.Query.{valueOf, lineValue, operands, wordsOf, setOf, query}
 use Rattle.model.specs.File.{wordsIn}
 use Rattle.model.specs.Held.{systemIn}
@@ -19,7 +20,7 @@ use Rattle.model.specs.declared.layout.Model.{Model}
 use Rattle.numbers.specs.Numbers.{wordsFrom}
 use Rattle.model.proofs.Lines.{words-of}
 use Rattle.model.proofs.Places.{header-whole}
-use Rattle.system.proofs.LineSets.{set-more, set-same, one-shifted}
+use Rattle.system.proofs.LineSets.{set-more, set-same}
 use Rattle.model.proofs.Sizes.{line-fits}
 use borrow.Author.Needs.{needs}
 use Rattle.one_query.proofs.evaluate.Statement.{statement}

@@ -1,16 +1,14 @@
 -- `report::put_share` meets its contract: the line has the share of the judgement's set.
 -- Assumes nothing.
 use mathlib.Core.Logic.{⊎-elim}
-use mathlib.Core.Path.{_≡_, ap, _∙_}
-use Prim.Native.Nat.{ℕ}
+use mathlib.Core.Path.{_≡_}
 use Rattle.solver.specs.Says.{judgedAnswer}
-use Rattle.share.specs.Share.{shareOf}
 use borrow.Author.Needs.{needs}
 use Rattle.report.proofs.put_share.Statement.{statement}
 use Rattle.report.proofs.put_share.Tie as tie
 
--- the set that is shared is the judgement's, or none where judging refused
-shared : (c : tie.At-match-came) → judgedAnswer (c .before .before .args .j) .set ≡ c .match .set
+-- the good lines are the judgement's, or none where judging refused
+shared : (c : tie.At-match-came) → judgedAnswer (c .before .before .before .args .j) .set ≡ c .match .good
 shared c = ⊎-elim (λ w. rw (w .1 .given .1, w .3)) (λ w. rw (w .1 .given .1, w .2)) (c .match .came)
 
 enum-known-j : tie.Need-enum-known-j
@@ -19,14 +17,8 @@ enum-known-j c = search needs
 enum-told : tie.Need-enum-told
 enum-told c = search needs
 
-member-count-requires : tie.Need-member-count-requires
-member-count-requires c κs = search needs
-
-cast-share-of : tie.Need-cast-share-of
-cast-share-of c = search needs
-
-share-of-requires : tie.Need-share-of-requires
-share-of-requires c κs = search needs
+met-share-requires : tie.Need-met-share-requires
+met-share-requires c κs = search needs
 
 slice-aggregate-put-number-line : tie.Need-slice-aggregate-put-number-line
 slice-aggregate-put-number-line c = search needs
@@ -40,11 +32,7 @@ same-length c = search needs
 returns : tie.Need-returns
 returns c =
     let share = c .before .before .before .before .before in
-    let counted = share .before in
-    let match = counted .before in
-    let start = match .before .before in
-    let known = share .share-of .ensures ∙ ap (λ (x : ℕ). shareOf x (start .args .n)) (counted .member-count .ensures) in
-    rw (shared match) (rw known at (c .before .before .put-number-line .ensures))
+    rw (shared (share .before)) (rw (share .met-share .ensures) at (c .before .before .put-number-line .ensures))
 
 pub put-share-spec : {M : Type 1} → statement M
 put-share-spec =
@@ -52,9 +40,7 @@ put-share-spec =
     (tie.spec
     enum-known-j
     enum-told
-    member-count-requires
-    cast-share-of
-    share-of-requires
+    met-share-requires
     slice-aggregate-put-number-line
     put-number-line-requires
     same-length

@@ -90,7 +90,8 @@ put-judged-requires-2 c κs = omega (arith, plain-room (c .before .before .befor
 put-share-requires : tie.Need-put-share-requires
 put-share-requires c κs =
     let tree = c .before .before .before in
-    omega (arith, tree-room tree, known (plain-line tree .before .before .before .before .before .before .before .before .before) .limits)
+    let whole = known (plain-line tree .before .before .before .before .before .before .before .before .before) in
+    (whole .laid-out, (omega (arith, whole .counts .lines, whole .accepted .header .lines-least), omega (arith, tree-room tree)))
 
 same-length-2 : tie.Need-same-length-2
 same-length-2 c = search needs
