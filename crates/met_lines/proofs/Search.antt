@@ -1,10 +1,10 @@
 -- The search from line 0 over each line's operands finds precisely the lines that can be met, as the definition by paths has them: in every well-formed system with
 -- a line, so in every file that checking accepts. Line 0 is one of them, so the share is of one line at least, and it is at most 1000.
 -- Assumes nothing.
-use mathlib.Core.Bool.{Bool, true, false, true≢false}
+use mathlib.Core.Bool.{true, true≢false}
 use mathlib.Core.List.{List, [], _∷_}
 use mathlib.Core.Logic.{_⊎_, inl, inr, _↔_}
-use mathlib.Core.Path.{_≡_, refl, sym, _∙_, ap, ap₂, subst}
+use mathlib.Core.Path.{_≡_, sym, _∙_, ap, ap₂, subst}
 use Prim.Native.Nat.{ℕ, zero, suc, _^_, _≤_, _<_}
 use native.Mathlib.Decide.{decLt}
 use native.Mathlib.Omega.{arith}
@@ -12,14 +12,14 @@ use borrow.Author.Tests.{eqb-true}
 use lib.ListN.{length, getD, List·getD-eq-default}
 use lib.Pow.{ones-lt, pow-lt}
 use Rattle.lists.proofs.Below.{below-at}
-use Rattle.sets.specs.Set.{isMember, full, union, intersection, members}
+use Rattle.sets.specs.Set.{isMember, full, intersection, members}
 use Rattle.sets.proofs.Order.{le-member, meet-right, join-left, join-right}
 use Rattle.sets.proofs.Range.{member-below}
 use Rattle.sets.proofs.Members.{members-most, members-some}
 use Rattle.sets.proofs.Membership.{member-power, member-full, member-empty, in-either}
 use Rattle.reach.specs.Met.{Met, here, Leads}
 use Rattle.reach.specs.Search.{reached}
-use Rattle.reach.proofs.Search.{met-map, reached-is, reached-same}
+use Rattle.reach.proofs.Search.{met-map, reached-is, reached-same, reached-below}
 use Rattle.share.proofs.Rounding.{share-most}
 use Rattle.system.specs.System.{System, WellFormed}
 use Rattle.system.specs.Query.{wordsOf}
@@ -36,6 +36,11 @@ pub table-search : (m : System) (table : List ℕ) {all : ℕ} → length table 
 unfolding metLines
 table-search m table long mask same =
     ap₂ (λ (n all : ℕ). reached n (λ p. getD table p 0) all 1) long mask ∙ reached-same (λ p. getD table p 0) (operandSet m) (m .lines) same (full (m .lines)) 1
+
+-- what is found are lines
+pub met-below : (m : System) → 1 ≤ m .lines → metLines m < 2 ^ m .lines
+unfolding metLines
+met-below m some = reached-below (m .lines) (operandSet m) (full (m .lines)) (ones-lt (m .lines)) 1 (pow-lt some)
 
 -- who is in a union of sets
 union-in : (ws : List ℕ) (k j : ℕ) → isMember (getD ws k 0) j ≡ true → isMember (unionOf ws) j ≡ true
@@ -56,7 +61,7 @@ in-union (w ∷ ws) j h = go (in-either w (unionOf ws) j h) (in-union ws j)
 
 module _ (m : System) (formed : WellFormed m) (some : 1 ≤ m .lines) where
   -- the operands of a line are lines
-  operand-line : (i j : ℕ) → IsOperand m i j → j < m .lines
+  pub operand-line : (i j : ℕ) → IsOperand m i j → j < m .lines
   operand-line i j (k, h) = go (decLt k (length (wordsOf m i)))
     where
       go : Dec (k < length (wordsOf m i)) → j < m .lines
@@ -92,12 +97,12 @@ module _ (m : System) (formed : WellFormed m) (some : 1 ≤ m .lines) where
   pub some-met : 1 ≤ members (metLines m)
   some-met = members-some (metLines m) (λ none. true≢false (sym (met-exactly 0 .1 here) ∙ ap (λ (x : ℕ). isMember x 0) none ∙ member-empty 0))
 
--- the lines of a file that is accepted
+-- in every file that is accepted
 pub file-met : (file : List ℕ) → fileNumber file ≡ 0 → (j : ℕ) → (isMember (metLines (decode file)) j ≡ true) ↔ MetLine (decode file) j
 unfolding decode
 file-met file h = let ok = accepted file h in met-exactly (decode file) (formed file ok) (ok .header .lines-least)
 
--- no more lines are good than there are
+-- of the lines that can be met, no more are good than there are
 pub met-few : (m : System) (good : ℕ) → metShare m good ≤ 1000
 unfolding metShare
 met-few m good = share-most _ _ (members-most (intersection good (metLines m)) (metLines m) (meet-right good (metLines m)))

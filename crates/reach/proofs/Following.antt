@@ -1,21 +1,20 @@
 -- The search that follows each position once: what has been found and followed so far, one position more, and the end, where all that was found is followed.
 -- Assumes nothing.
-use mathlib.Core.Bool.{Bool, true, false, cond, not, true≢false}
+use mathlib.Core.Bool.{Bool, true, false, true≢false}
 use mathlib.Core.Logic.{_⊎_, inl, inr}
 use mathlib.Core.Path.{_≡_, refl, sym, _∙_, ap}
 use Prim.Native.Nat.{ℕ, _-_, _^_, _<_}
 use native.Mathlib.Omega.{arith}
 use borrow.Author.Tests.{eqb-true, eq-eqb}
 use lib.Bits.{bitXor}
-use lib.Dec.{eqb}
 use Rattle.sets.specs.Set.{isMember, full, union, intersection, members}
 use Rattle.sets.proofs.Order.{_⊑_, le-member, member-le, trans⊑, antisym⊑, refl⊑, empty-least, meet-left, meet-right, join-left, join-right, join-lub}
-use Rattle.sets.proofs.Range.{below-full, member-below}
+use Rattle.sets.proofs.Range.{below-full}
 use Rattle.sets.proofs.Members.{members-full, members-most, members-strict}
-use Rattle.sets.proofs.Membership.{member-empty, member-differ, member-power, same-members, in-both, in-either}
+use Rattle.sets.proofs.Membership.{member-empty, member-differ, member-power, in-both, in-either}
 use Rattle.reach.specs.Met.{Met, here, onward, Leads}
 use Rattle.reach.specs.Search.{reached}
-use Rattle.reach.proofs.Search.{In, met-inside, reached-is, reached-below}
+use Rattle.reach.proofs.Search.{In, met-inside, reached-is}
 
 -- what is found, and of that what is followed: its allowed successors are found too
 pub record Searched (n : ℕ) (next : ℕ → ℕ) (allowed start found followed : ℕ) : Type 0 where
@@ -101,12 +100,3 @@ found-first found followed part p h = go (isMember found p) refl (isMember follo
     go true e false f = (e, f)
     go true e true f = absurd (true≢false (sym h ∙ member-differ found followed p ∙ rw (e, f)))
     go false e t f = absurd (true≢false (sym (le-member _ _ part p (sym (member-differ found followed p ∙ rw (e)) ∙ h)) ∙ e))
-
--- different sets differ somewhere
-pub differ-some : (a b : ℕ) → bitXor a b ≡ 0 → a ≡ b
-differ-some a b z = same-members a b (λ i. go (isMember a i) (isMember b i) (sym (member-differ a b i) ∙ ap (λ (x : ℕ). isMember x i) z ∙ member-empty i))
-  where
-    go : (s t : Bool) → cond s (not t) t ≡ false → s ≡ t
-    go true true e = refl
-    go true false e = absurd (true≢false e)
-    go false t e = sym e

@@ -1,5 +1,5 @@
 -- Who is a member of what the operations on words give: of an intersection, a union, a symmetric difference, the word of one line,
--- all of the lines, and a word without its lowest member.
+-- all of the lines, and a word without its lowest member; and sets with the same members are equal.
 -- Assumes nothing.
 use mathlib.Core.Bool.{Bool, true, false, cond, not, _&&_, _||_}
 use mathlib.Core.Logic.{_⊎_, inl, inr}
@@ -114,6 +114,15 @@ same-members a b h = same-digits a b λ i. at i (isMember b i) refl
     at : (i : ℕ) (t : Bool) → isMember b i ≡ t → digit a i ≡ digit b i
     at i true e = eqb-true (digit a i) 1 (h i ∙ e) ∙ sym (eqb-true (digit b i) 1 e)
     at i false e = omega (arith, eqb-false (digit a i) 1 (h i ∙ e), eqb-false (digit b i) 1 e)
+
+-- sets that differ nowhere are equal
+pub differ-none : (a b : ℕ) → bitXor a b ≡ 0 → a ≡ b
+differ-none a b none = same-members a b (λ i. go (isMember a i) (isMember b i) (sym (member-differ a b i) ∙ ap (λ (x : ℕ). isMember x i) none ∙ member-empty i))
+  where
+    go : (s t : Bool) → cond s (not t) t ≡ false → s ≡ t
+    go true true e = refl
+    go true false e = e
+    go false t e = sym e
 
 -- t is the lowest member of x, one of k lines, and x - 1 takes it away alone
 pub record Lowest (k x t : ℕ) : Type 0 where

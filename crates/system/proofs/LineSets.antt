@@ -2,14 +2,14 @@
 -- Assumes nothing.
 use mathlib.Core.Bool.{Bool, true, false, cond, _&&_, _||_}
 use mathlib.Core.Path.{_≡_, refl, sym, _∙_, ap}
-use Prim.Native.Nat.{ℕ, zero, suc, _+_, _*_, _/_, _%_, _^_, _≤_, _<_}
-use native.Mathlib.Nat.{one-mul, mod-eq-of-lt, div-eq-of-lt, lt-of-le-of-lt, lt-of-lt-of-le}
+use Prim.Native.Nat.{ℕ, zero, suc, _+_, _*_, _/_, _^_, _≤_, _<_}
+use native.Mathlib.Nat.{div-eq-of-lt, lt-of-le-of-lt, lt-of-lt-of-le}
 use native.Mathlib.Numerals.{add-one}
 use native.Mathlib.Omega.{arith}
 use borrow.Author.Tests.{lt-ltb, le-ltb, eqb-true, eqb-false, ltb-true, ltb-false}
 use lib.Bits.{or-zero-r}
 use lib.Dec.{eqb, ltb}
-use lib.Pow.{pow-lt, pow-mono, shr-shr, shr-le}
+use lib.Pow.{pow-mono, shr-shr, shr-le}
 use Rattle.sets.specs.Set.{isMember, union}
 use Rattle.sets.proofs.Membership.{member-join, member-power, member-empty, member-digit}
 use Rattle.system.specs.Query.{setOf}

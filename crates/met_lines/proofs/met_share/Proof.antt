@@ -1,6 +1,6 @@
 -- `met_lines::met_share` meets its contract: the two numbers are those of the good lines that can be met and of all that can.
 -- Assumes nothing.
-use mathlib.Core.Path.{_≡_, _∙_, ap, ap₂}
+use mathlib.Core.Path.{_∙_, ap, ap₂}
 use Prim.Native.Nat.{ℕ}
 use Rattle.sets.specs.Set.{intersection, members}
 use Rattle.share.specs.Share.{shareOf}

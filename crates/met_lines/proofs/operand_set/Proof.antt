@@ -1,6 +1,6 @@
 -- `met_lines::operand_set` meets its contract. The loop's invariant: the set has what the words passed select, the last word first. The measure is the words left.
 -- Assumes nothing.
-use mathlib.Core.Path.{_≡_, refl, sym, _∙_, ap, ap₂}
+use mathlib.Core.Path.{_≡_, _∙_, ap₂}
 use Prim.Native.Nat.{ℕ, suc, _+_, _-_, _*_, _≤_}
 use mathlib.Core.List.{List}
 use native.Mathlib.Nat.{add-zero, sub-zero, sub-self}
@@ -8,7 +8,7 @@ use native.Mathlib.Omega.{arith}
 use lib.ListN.{drop}
 use lib.Seq.{drop-drop}
 use Rattle.sets.specs.Set.{union}
-use Rattle.numbers.specs.Numbers.{numberAt, wordsFrom}
+use Rattle.numbers.specs.Numbers.{wordsFrom}
 use Rattle.met_lines.specs.MetLines.{unionOf}
 use borrow.Author.Needs.{needs}
 use denote.Ref.{now}

@@ -2,13 +2,11 @@
 -- The measure is the number of positions that are not followed yet.
 -- Assumes nothing.
 use denote.Ref.{now}
-use mathlib.Core.Bool.{true, false}
-use mathlib.Core.List.{List}
-use mathlib.Core.Path.{_≡_, refl, sym, subst}
-use Prim.Native.Nat.{ℕ, _-_, _^_, _<_}
+use mathlib.Core.Bool.{false}
+use mathlib.Core.Path.{_≡_, sym}
+use Prim.Native.Nat.{ℕ, _-_, _<_}
 use native.Mathlib.Nat.{lt-of-lt-of-le}
 use native.Mathlib.Omega.{arith}
-use borrow.Author.Needs.{needs}
 use borrow.Author.Tests.{eq-eqb}
 use lib.Bits.{bitXor, xor-lt}
 use lib.Count.{trailingZeros}
@@ -16,10 +14,10 @@ use lib.ListN.{length, getD}
 use lib.Pow.{pow-mono}
 use Rattle.sets.specs.Set.{isMember, full, members}
 use Rattle.sets.proofs.Order.{digit, trans⊑}
-use Rattle.sets.proofs.Membership.{Lowest, lowest, one-shifted}
+use Rattle.sets.proofs.Membership.{Lowest, lowest, one-shifted, differ-none}
 use Rattle.sets.proofs.Range.{full-below, member-below}
 use Rattle.reach.proofs.Search.{In}
-use Rattle.reach.proofs.Following.{Searched, searched-none, searched-more, searched-all, less-left, found-first, differ-some}
+use Rattle.reach.proofs.Following.{Searched, searched-none, searched-more, searched-all, less-left, found-first}
 use Rattle.reach.proofs.reached.Statement.{statement}
 use Rattle.reach.proofs.reached.Tie as tie
 
@@ -47,7 +45,7 @@ followed-next c =
     let n = length (now (c .before .before .args .next)) in
     let t = trailingZeros 64 (bitXor (l .found) (l .followed)) in
     let few = xor-lt n (l .found) (l .followed) (full-below n (l .found) (l .inv .few)) (full-below n (l .followed) (trans⊑ _ _ (full n) (l .inv .part) (l .inv .few))) in
-    let low : Lowest 64 (bitXor (l .found) (l .followed)) t = lowest 64 (bitXor (l .found) (l .followed)) (lt-of-lt-of-le few (pow-mono (c .before .before .pre .0))) (λ z. c .loop-test .taken (sym (differ-some (l .found) (l .followed) z))) in
+    let low : Lowest 64 (bitXor (l .found) (l .followed)) t = lowest 64 (bitXor (l .found) (l .followed)) (lt-of-lt-of-le few (pow-mono (c .before .before .pre .0))) (λ z. c .loop-test .taken (sym (differ-none (l .found) (l .followed) z))) in
     let first = found-first (l .found) (l .followed) (l .inv .part) t (eq-eqb (digit (bitXor (l .found) (l .followed)) t) 1 (low .is-in)) in
     record { low = low .low; one = member-below n (l .found) t (full-below n (l .found) (l .inv .few)) (first .0); is-found = first .0; new = first .1 }
 
