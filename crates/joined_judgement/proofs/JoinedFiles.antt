@@ -2,7 +2,7 @@
 -- Assumes nothing.
 use mathlib.Core.Bool.{false}
 use mathlib.Core.List.{List}
-use mathlib.Core.Path.{_≡_, refl, sym, _∙_, ap, ap₂}
+use mathlib.Core.Path.{_≡_, refl, sym, _∙_, ap}
 use mathlib.Mathlib.Data.Bool.Basic.{or-eq-false-eq-eq-false-and-eq-false as neither}
 use Prim.Native.Nat.{ℕ, _+_, _-_, _^_, _<_}
 use native.Mathlib.Decide.{decLt}
@@ -22,7 +22,7 @@ use Rattle.sets.proofs.Range.{below-full}
 use Rattle.system.specs.System.{System, WellFormed}
 use Rattle.system.specs.Query.{wordsOf, operandCount}
 use Rattle.system.specs.Joined.{joined, Joinable}
-use Rattle.system.proofs.JoinedLines.{entry-first, entry-second, words-first, words-second}
+use Rattle.system.proofs.JoinedLines.{line-first, line-second, words-first, words-second}
 use Rattle.system.proofs.Joined.{operands-moved, joined-formed}
 use Rattle.model.specs.File.{fileLength, decode, encode}
 use Rattle.model.specs.Checks.{some, strays, misfits, thresholdMisfits}
@@ -50,14 +50,12 @@ module _ (m₁ m₂ : System) (W₁ : WellFormed m₁) (W₂ : WellFormed m₂) 
   -- a threshold fits its line as it did before
   misfits-first : (i : ℕ) → i < m₁ .lines → thresholdMisfits (joined m₁ m₂) i ≡ thresholdMisfits m₁ i
   misfits-first i h =
-      ap₂ (λ (kind t : ℕ). misfits kind t (operandCount (wordsOf (joined m₁ m₂) i)))
-      (entry-first (m₁ .kinds) (m₂ .kinds) (W₁ .sliced .kinds-long) i h) (entry-first (m₁ .thresholds) (m₂ .thresholds) (W₁ .sliced .thresholds-long) i h)
+      line-first m₁ m₂ W₁ W₂ J (λ kind t. misfits kind t (operandCount (wordsOf (joined m₁ m₂) i))) i h
       ∙ ap (λ (ws : List ℕ). misfits (getD (m₁ .kinds) i 0) (getD (m₁ .thresholds) i 0) (operandCount ws)) (words-first m₁ m₂ W₁ W₂ J i h)
 
   misfits-second : (j : ℕ) → thresholdMisfits (joined m₁ m₂) (m₁ .lines + j) ≡ thresholdMisfits m₂ j
   misfits-second j =
-      ap₂ (λ (kind t : ℕ). misfits kind t (operandCount (wordsOf (joined m₁ m₂) (m₁ .lines + j))))
-      (entry-second (m₁ .kinds) (m₂ .kinds) (W₁ .sliced .kinds-long) j) (entry-second (m₁ .thresholds) (m₂ .thresholds) (W₁ .sliced .thresholds-long) j)
+      line-second m₁ m₂ W₁ W₂ J (λ kind t. misfits kind t (operandCount (wordsOf (joined m₁ m₂) (m₁ .lines + j)))) j
       ∙ ap (misfits (getD (m₂ .kinds) j 0) (getD (m₂ .thresholds) j 0))
       (ap operandCount (words-second m₁ m₂ W₁ W₂ J j) ∙ operands-moved (wordsOf m₂ j) (m₁ .lines))
 

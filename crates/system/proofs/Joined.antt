@@ -14,33 +14,24 @@ use Rattle.sets.specs.SideBySide.{movedUp, sideBySide}
 use Rattle.sets.proofs.SideBySide.{beside-below, members-moved}
 use Rattle.fixpoint.specs.Pairing.{setsAlongside, SetsBeside}
 use Rattle.system.specs.System.{System, WellFormed}
-use Rattle.system.specs.Query.{valueOf, operandCount, lineValue, query}
+use Rattle.system.specs.Query.{valueOf, operandCount, query}
 use Rattle.system.specs.Joined.{joined, Joinable}
 use Rattle.system.proofs.LineSets.{set-same-values}
-use Rattle.system.proofs.JoinedLines.{entry-first, entry-second, set-beside, bits-first, bits-second}
+use Rattle.system.proofs.JoinedLines.{line-first, line-second, set-beside, bits-first, bits-second}
 
 pub operands-moved : (ws : List ℕ) (n : ℕ) → operandCount (map (movedUp n) ws) ≡ operandCount ws
 operands-moved [] n = refl
 operands-moved (w ∷ ws) n = ap₂ _+_ (members-moved n w) (operands-moved ws n)
 
 module _ (m₁ m₂ : System) (W₁ : WellFormed m₁) (W₂ : WellFormed m₂) (J : Joinable m₁ m₂) where
-  -- each line keeps its kind and its threshold
-  value-first : (i : ℕ) → i < m₁ .lines → lineValue (joined m₁ m₂) i ≡ lineValue m₁ i
-  value-first i h =
-      ap₂ valueOf (entry-first (m₁ .kinds) (m₂ .kinds) (W₁ .sliced .kinds-long) i h) (entry-first (m₁ .thresholds) (m₂ .thresholds) (W₁ .sliced .thresholds-long) i h)
-
-  value-second : (j : ℕ) → lineValue (joined m₁ m₂) (m₁ .lines + j) ≡ lineValue m₂ j
-  value-second j =
-      ap₂ valueOf (entry-second (m₁ .kinds) (m₂ .kinds) (W₁ .sliced .kinds-long) j) (entry-second (m₁ .thresholds) (m₂ .thresholds) (W₁ .sliced .thresholds-long) j)
-
   pub query-joined : {xs ys : List ℕ} → SetsBeside (m₁ .lines) (m₂ .lines) xs ys
       → query (joined m₁ m₂) (setsAlongside (m₁ .lines) xs ys) ≡ sideBySide (m₁ .lines) (query m₁ xs) (query m₂ ys)
   unfolding query
   query-joined b =
       set-beside (m₁ .lines) (m₂ .lines) _
       ∙ ap₂ (sideBySide (m₁ .lines))
-      (set-same-values (m₁ .lines) _ _ (λ i l. ap₂ at (value-first i l) (bits-first m₁ m₂ W₁ W₂ J b i l)))
-      (set-same-values (m₂ .lines) _ _ (λ j l. ap₂ at (value-second j) (bits-second m₁ m₂ W₁ W₂ J b j)))
+      (set-same-values (m₁ .lines) _ _ (λ i l. ap₂ at (line-first m₁ m₂ W₁ W₂ J valueOf i l) (bits-first m₁ m₂ W₁ W₂ J b i l)))
+      (set-same-values (m₂ .lines) _ _ (λ j l. ap₂ at (line-second m₁ m₂ W₁ W₂ J valueOf j) (bits-second m₁ m₂ W₁ W₂ J b j)))
     where
       at : (List Bool → Bool) → List Bool → Bool
       at value bits = value bits

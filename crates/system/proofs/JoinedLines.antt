@@ -35,10 +35,10 @@ module _ (f : ℕ → ℕ) where
 
 -- entries of two lists, one after the other, where the first has n of them
 module _ (ks ls : List ℕ) {n : ℕ} (e : length ks ≡ n) where
-  pub entry-first : (i : ℕ) → i < n → getD (ks ++ ls) i 0 ≡ getD ks i 0
+  entry-first : (i : ℕ) → i < n → getD (ks ++ ls) i 0 ≡ getD ks i 0
   entry-first i h = List·getD-append ks ls 0 i (omega arith)
 
-  pub entry-second : (j : ℕ) → getD (ks ++ ls) (n + j) 0 ≡ getD ls j 0
+  entry-second : (j : ℕ) → getD (ks ++ ls) (n + j) 0 ≡ getD ls j 0
   entry-second j = ap (λ (k : ℕ). getD (ks ++ ls) (k + j) 0) (sym e) ∙ getD-append-add ks ls j 0
 
 -- the set of those of n₁ + n₂ lines of which p holds: of the first n₁, and behind it of the others
@@ -59,6 +59,15 @@ set-beside n₁ (suc n₂) p =
     moved false = omega arith
 
 module _ (m₁ m₂ : System) (W₁ : WellFormed m₁) (W₂ : WellFormed m₂) (J : Joinable m₁ m₂) where
+  -- each line keeps its kind and its threshold, and so whatever goes by both
+  pub line-first : {X : Type 0} (f : ℕ → ℕ → X) (i : ℕ) → i < m₁ .lines
+      → f (getD (joined m₁ m₂ .kinds) i 0) (getD (joined m₁ m₂ .thresholds) i 0) ≡ f (getD (m₁ .kinds) i 0) (getD (m₁ .thresholds) i 0)
+  line-first f i h = ap₂ f (entry-first (m₁ .kinds) (m₂ .kinds) (W₁ .sliced .kinds-long) i h) (entry-first (m₁ .thresholds) (m₂ .thresholds) (W₁ .sliced .thresholds-long) i h)
+
+  pub line-second : {X : Type 0} (f : ℕ → ℕ → X) (j : ℕ)
+      → f (getD (joined m₁ m₂ .kinds) (m₁ .lines + j) 0) (getD (joined m₁ m₂ .thresholds) (m₁ .lines + j) 0) ≡ f (getD (m₂ .kinds) j 0) (getD (m₂ .thresholds) j 0)
+  line-second f j = ap₂ f (entry-second (m₁ .kinds) (m₂ .kinds) (W₁ .sliced .kinds-long) j) (entry-second (m₁ .thresholds) (m₂ .thresholds) (W₁ .sliced .thresholds-long) j)
+
   -- a line of the first system keeps its words, those of a line of the second are moved up
   pub words-first : (i : ℕ) → i < m₁ .lines → wordsOf (joined m₁ m₂) i ≡ wordsOf m₁ i
   words-first i h =
