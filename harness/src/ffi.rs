@@ -179,6 +179,20 @@ pub fn page(file: &[u8], buffer: &mut [u8]) -> Answer {
     })
 }
 
+/// The page of a file that is not refused.
+pub fn page_of(file: &[u8]) -> String {
+    let mut buffer = vec![0; 2665];
+    let answer = page(file, &mut buffer);
+    assert_eq!(answer.number, 0);
+    buffer.truncate(answer.length as usize);
+    String::from_utf8(buffer).expect("it is ASCII")
+}
+
+/// The share on the page of a file that is not refused.
+pub fn page_share(file: &[u8]) -> u64 {
+    page_of(file)[24..28].trim_start().parse().expect("it is a number")
+}
+
 pub fn join(first: &[u8], second: &[u8], buffer: &mut [u8]) -> Answer {
     answered(|answer| unsafe {
         raw::solver_join(

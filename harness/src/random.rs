@@ -52,6 +52,13 @@ fn shuffle<T>(random: &mut Random, entries: &mut [T]) {
     }
 }
 
+/// The lines 0 to n - 1 in any order, line 0 first.
+pub fn order_from_0(random: &mut Random, n: usize) -> Vec<usize> {
+    let mut order: Vec<usize> = (0..n).collect();
+    shuffle(random, &mut order[1..]);
+    order
+}
+
 // ---- models ----
 
 /// How many operands a line has that is not idle.
@@ -220,15 +227,28 @@ pub fn hard_model(random: &mut Random, n: usize, h: usize, idle: usize, votes: u
     if random.chance(50) {
         model = model.dual();
     }
-    for i in leaves..n {
-        model.kinds.push(any_or_all(random, 50));
-        model.operands.push(operands(random, i, n, 2 * h, Density::Few, idle));
-    }
-    add_votes(random, &mut model.kinds[leaves..], &model.operands[leaves..], votes);
+    add_lines(random, &mut model, n, idle, votes);
     let mut place: Vec<usize> = (0..n).collect();
     shuffle(random, &mut place);
+    moved(&model, &place)
+}
+
+/// Adds lines up to n, which have few operands among all n, each idle with a chance of `idle` in a hundred and else a vote with one of
+/// `votes`.
+fn add_lines(random: &mut Random, model: &mut Model, n: usize, idle: usize, votes: usize) {
+    let own = model.lines();
+    for i in own..n {
+        model.kinds.push(any_or_all(random, 50));
+        model.operands.push(operands(random, i, n, model.levels(), Density::Few, idle));
+    }
+    add_votes(random, &mut model.kinds[own..], &model.operands[own..], votes);
+}
+
+/// The model with each line in its new place.
+fn moved(model: &Model, place: &[usize]) -> Model {
+    let n = model.lines();
     let mut moved =
-        Model { greatest: model.greatest, kinds: vec![Kind::Any; n], operands: vec![Vec::new(); n] };
+        Model { greatest: model.greatest.clone(), kinds: vec![Kind::Any; n], operands: vec![Vec::new(); n] };
     for (i, of_line) in model.operands.iter().enumerate() {
         let move_to = |o: &Operand| Operand { level: o.level, line: place[o.line] };
         moved.kinds[place[i]] = model.kinds[i];
@@ -238,26 +258,56 @@ pub fn hard_model(random: &mut Random, n: usize, h: usize, idle: usize, votes: u
     moved
 }
 
-/// A model of n lines of which so many are good between no line and all lines, in any places. Level 1 is least and level 2
-/// greatest; a good line is all of none, any of itself at level 2 or one of itself at both levels, another one any of none, all
-/// of itself at level 1 or two of itself at both levels.
+/// A model of n lines that can all be met from line 0, of which so many are good between no line and all lines, in any places; half
+/// of the models have no votes. Level 1 is least and level 2 greatest. In some order, line 0 first, each line is an operand of one before
+/// it, at either level or both. It is good or not by its operands, or by itself whatever they are.
 pub fn model_with_good_lines(random: &mut Random, n: usize, good: usize) -> Model {
-    let mut lines: Vec<bool> = (0..n).map(|i| i < good).collect();
-    shuffle(random, &mut lines);
-    let mut model = Model { greatest: vec![false, true], kinds: Vec::new(), operands: Vec::new() };
-    for (line, is_good) in lines.into_iter().enumerate() {
-        let (kind, levels) = match (random.between(0, 2), is_good) {
-            (0, true) => (Kind::All, vec![]),
-            (0, false) => (Kind::Any, vec![]),
-            (1, true) => (Kind::Any, vec![1]),
-            (1, false) => (Kind::All, vec![0]),
-            (_, true) => (Kind::AtLeast(1), vec![0, 1]),
-            (_, false) => (Kind::AtLeast(2), vec![0, 1]),
-        };
-        model.kinds.push(kind);
-        model.operands.push(levels.into_iter().map(|level| Operand { level, line }).collect());
+    let mut is_good: Vec<bool> = (0..n).map(|i| i < good).collect();
+    shuffle(random, &mut is_good);
+    let order = order_from_0(random, n);
+    let mut model =
+        Model { greatest: vec![false, true], kinds: vec![Kind::Any; n], operands: vec![Vec::new(); n] };
+    // A chain, or something broader.
+    let chained = random.between(0, 100);
+    for at in 1..n {
+        let before = if random.chance(chained) { at - 1 } else { random.between(0, at - 1) };
+        for &level in [&[0][..], &[1], &[0, 1]][random.between(0, 2)] {
+            model.operands[order[before]].push(Operand { level, line: order[at] });
+        }
+    }
+    let votes = random.chance(50);
+    for line in 0..n {
+        model.operands[line].sort();
+        let all = model.operands[line].len();
+        let set = model.operands[line].iter().filter(|o| is_good[o.line]).count();
+        let of_votes = (1..=if votes { all } else { 0 }).map(|t| (Kind::AtLeast(t), t));
+        let needs = [(Kind::Any, 1), (Kind::All, all)].into_iter().chain(of_votes);
+        let fitting: Vec<Kind> =
+            needs.filter(|&(_, t)| (set >= t) == is_good[line]).map(|(kind, _)| kind).collect();
+        if fitting.is_empty() || random.chance(40) {
+            model.decide_by_itself(line, is_good[line], votes && random.chance(50));
+        } else {
+            model.kinds[line] = fitting[random.between(0, fitting.len() - 1)];
+        }
     }
     model
+}
+
+/// The model with so many further lines that are no operands of its own lines, so that they are not met from line 0. They stand in any
+/// places but the first, and have few operands or none, which are any lines, and votes where the model has some.
+pub fn with_spares(random: &mut Random, model: &Model, count: usize) -> Model {
+    let n = model.lines() + count;
+    let mut longer = model.clone();
+    let votes = if model.has_votes() { 30 } else { 0 };
+    add_lines(random, &mut longer, n, 40, votes);
+    moved(&longer, &order_from_0(random, n))
+}
+
+/// A model of n lines and d levels, most often with few operands, so that many lines are not met from line 0.
+pub fn sparse_model(random: &mut Random, n: usize, d: usize) -> Model {
+    let signs = signs(random, d);
+    let density = if random.chance(70) { Density::Few } else { density(random, n) };
+    model(random, n, &signs, density)
 }
 
 /// A model of n lines and d levels of any of these sorts.

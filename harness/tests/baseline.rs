@@ -1,11 +1,11 @@
 //! The benchmark's Rust implementations against the reference, so that the benchmark compares equal work.
 
 use harness::baseline::join::join;
-use harness::baseline::page::page;
+use harness::baseline::page::{met_lines, page};
 use harness::baseline::{by_levels, whole};
 use harness::lent::{file_length, Seen};
-use harness::random::{self, Random};
-use harness::reference;
+use harness::random::{self, full, Random};
+use harness::reference::{self, word_of, Model};
 
 #[test]
 fn the_baselines_judge_as_the_reference_does() {
@@ -55,6 +55,31 @@ fn the_baseline_makes_pages_as_the_reference_does() {
 }
 
 #[test]
+fn the_baseline_meets_the_lines_that_the_reference_does() {
+    let mut random = Random::new(905);
+    let (mut all, mut spare, mut refused) = (0, 0, 0);
+    for _ in 0..5000 {
+        let (n, d) = (random.between(1, 64), random.between(1, 8));
+        let model = random::sparse_model(&mut random, n, d);
+        let mut file = random::file(&mut random, &model);
+        if random.chance(20) {
+            random::damage_file_often(&mut random, &mut file, n, d);
+        }
+        let expected = Model::from_file(&file).map(|model| word_of(&reference::met_lines(&model)));
+        assert_eq!(met_lines(&file), expected, "{file:?}");
+        *(match expected {
+            Ok(met) if met == full(n) => &mut all,
+            Ok(_) => &mut spare,
+            Err(_) => &mut refused,
+        }) += 1;
+    }
+    assert!(
+        all > 200 && spare > 2000 && refused > 500,
+        "{all} with all lines met, {spare} others, {refused} refused"
+    );
+}
+
+#[test]
 fn the_baseline_joins_as_the_reference_does() {
     let mut random = Random::new(904);
     let mut seen = Seen::default();
@@ -78,11 +103,17 @@ fn the_baseline_rounds_every_share_as_the_reference_does() {
     let mut random = Random::new(903);
     for n in 1..=64 {
         for good in 0..=n {
-            let file = random::model_with_good_lines(&mut random, n, good).file();
-            let mut made = vec![0; 41 * (n + 1)];
-            let mut expected = made.clone();
-            assert_eq!(page(&file, &mut made), reference::page(&file, &mut expected), "{good} of {n}");
-            assert_eq!(made, expected, "{good} of {n}");
+            let model = random::model_with_good_lines(&mut random, n, good);
+            for spares in [0, random.between(0, 64 - n)] {
+                let file = random::with_spares(&mut random, &model, spares).file();
+                let mut made = vec![0; 41 * (n + spares + 1)];
+                let mut expected = made.clone();
+                let answer = page(&file, &mut made);
+                assert_eq!(answer, reference::page(&file, &mut expected), "{good} of {n}, {spares} spares");
+                assert_eq!(made, expected, "{good} of {n}, {spares} spares");
+                let share = String::from_utf8_lossy(&made[24..28]).into_owned();
+                assert_eq!(share, format!("{:4}", reference::share(good, n)), "{spares} spares");
+            }
         }
     }
 }

@@ -5,9 +5,8 @@
 use std::thread;
 
 use harness::random::{self, full, Density, Random};
-use harness::reference::game::winning_lines;
 use harness::reference::restricted::restricted;
-use harness::reference::{set_of, word_of, Kind, Model, Operand, Tree};
+use harness::reference::{good_lines, set_of, word_of, Kind, Model, Operand, Tree};
 use harness::{ffi, Answer};
 
 const GAPS: usize = 1023;
@@ -56,7 +55,7 @@ fn the_deepest_built_in_runs_end_on_a_small_stack() {
     let leaves = Tree::built_in(64, 4).leaf_count();
     for outermost_greatest in [false, true] {
         let model = model(64, outermost_greatest);
-        let set = winning_lines(&model, &set_of(0, 64), &set_of(full(64), 64));
+        let set = good_lines(&model);
         let file = model.file();
         let answer = on_a_small_stack(move || ffi::built(&file, 0, full(64)));
         assert_eq!(answer, Answer::judged(word_of(&set), leaves * leaves));

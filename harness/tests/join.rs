@@ -1,9 +1,9 @@
 //! Joining (request W6) against the reference, which appends lines and operands where the engine shifts words: answers, every byte of
 //! the buffer, and that the joined set is the two sets side by side.
 
+use harness::ffi::page_share;
 use harness::lent::{file_length, Lent, Seen};
 use harness::random::{self, full, Random, FILE_DAMAGES};
-use harness::reference::game::winning_lines;
 use harness::reference::nested::nested;
 use harness::reference::{put, set_of, word_of, Kind, Model, Tree};
 use harness::{ffi, reference, Answer};
@@ -130,9 +130,7 @@ fn a_joined_file_is_read_as_the_parts_of_both() {
 
 /// The good lines of a joined model by its game.
 fn good_lines(models: &[Model; 2]) -> u64 {
-    let model = models[0].joined(&models[1]);
-    let n = model.lines();
-    word_of(&winning_lines(&model, &set_of(0, n), &set_of(full(n), n)))
+    word_of(&reference::good_lines(&models[0].joined(&models[1])))
 }
 
 /// Whether both models have lines in this set of the joined one, and lines outside it.
@@ -435,6 +433,28 @@ fn the_other_order_turns_the_set_round() {
         others += (one != other && set != turned) as usize;
     }
     assert!(others > 200, "only {others} sets are others in the other order");
+}
+
+#[test]
+fn the_share_is_the_firsts() {
+    let mut random = Random::new(1418);
+    let (mut others, mut of_all_lines) = (0, 0);
+    for _ in 0..500 {
+        let (sizes, d) = (two_sizes(&mut random, 64), random.between(1, 3));
+        let models = random::models_alike(&mut random, sizes, d);
+        let [first, second] = files(&mut random, &models);
+        let both = joined(&first, &second);
+        let share = page_share(&both);
+        // No line of the second is met from line 0.
+        assert_eq!(share, page_share(&first), "{models:?}");
+        assert_eq!(share, reference::share_of(&models[0], &reference::good_lines(&models[0])), "{models:?}");
+        assert_eq!(page_share(&joined(&second, &first)), page_share(&second), "{models:?}");
+        others += (page_share(&second) != share) as usize;
+        let good = good_lines(&models).count_ones() as usize;
+        of_all_lines += (reference::share(good, sizes[0] + sizes[1]) != share) as usize;
+    }
+    assert!(others > 200, "only {others} seconds have another share");
+    assert!(of_all_lines > 200, "only {of_all_lines} shares would be others if all lines counted");
 }
 
 #[test]

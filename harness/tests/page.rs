@@ -1,5 +1,6 @@
 //! The bench page against the reference, which lays it out with Rust's own formatting: answers, and every byte of the buffer.
 
+use harness::ffi::{page_of, page_share};
 use harness::lent::{Lent, Seen};
 use harness::random::{self, full, Random, FILE_DAMAGES};
 use harness::reference::{page_text, put};
@@ -31,15 +32,6 @@ fn page_length(n: usize) -> usize {
 
 fn model_file(name: &str) -> Vec<u8> {
     std::fs::read(root(&format!("models/{name}"))).expect("it is there")
-}
-
-/// The page of a file that is not refused.
-fn page_of(file: &[u8]) -> String {
-    let mut buffer = vec![0; page_length(64)];
-    let answer = ffi::page(file, &mut buffer);
-    assert_eq!(answer.number, 0);
-    buffer.truncate(answer.length as usize);
-    String::from_utf8(buffer).expect("it is ASCII")
 }
 
 #[test]
@@ -152,17 +144,35 @@ fn the_page_marks_the_lines_that_judging_finds() {
 fn every_share_is_the_nearest_number_or_the_even_one() {
     let mut random = Random::new(1007);
     let (mut down, mut up) = (0, 0);
+    let (mut good_spares, mut other_spares) = (0, 0);
     for n in 1..=64 {
         for good in 0..=n {
-            let page = page_of(&random::model_with_good_lines(&mut random, n, good).file());
+            // All n lines are met.
+            let model = random::model_with_good_lines(&mut random, n, good);
+            let file = random::file(&mut random, &model);
+            let page = page_of(&file);
             assert_eq!(page.matches('+').count(), good, "{page}");
-            let share: u64 = page[24..28].trim_start().parse().expect("it is a number");
+            let share = page_share(&file);
             assert_eq!(share, reference::share(good, n), "{good} of {n}");
             let (rounded, exact) = (2 * n * share as usize, 2000 * good);
             down += (rounded + n == exact) as usize;
             up += (rounded == exact + n) as usize;
+            // As many spare lines as there is room for, and fewer.
+            for spares in [64 - n, random.between(0, 64 - n)] {
+                let longer = random::with_spares(&mut random, &model, spares);
+                let file = random::file(&mut random, &longer);
+                let page = page_of(&file);
+                assert_eq!(page_share(&file), share, "{good} of {n} and {spares} spares: {page}");
+                let marked = page.matches('+').count();
+                good_spares += marked - good;
+                other_spares += spares - (marked - good);
+            }
         }
     }
     // A half comes of an odd number of sixteenths: eight such numbers for each of 16, 32, 48 and 64 lines, every other one rounded up.
     assert_eq!((down, up), (16, 16));
+    assert!(
+        good_spares > 10_000 && other_spares > 10_000,
+        "{good_spares} good spares, {other_spares} others"
+    );
 }

@@ -4,8 +4,8 @@
 
 use harness::lent::Seen;
 use harness::random::{self, full, Random};
-use harness::reference::game::winning_lines;
-use harness::reference::{self, set_of, word_of, Kind, Tree};
+use harness::reference::met::{chain, with_one_good_line};
+use harness::reference::{self, good_lines, met_lines, share_of, word_of, Kind, Tree};
 use harness::{root, Answer};
 use std::io::Write;
 use std::process::{Command, Output, Stdio};
@@ -70,12 +70,11 @@ fn expected_judgement(file: &[u8]) -> String {
         Err(number) => return refused(number),
     };
     let n = model.lines();
-    let set = winning_lines(&model, &set_of(0, n), &set_of(full(n), n));
+    let set = good_lines(&model);
     let leaves = |h| Tree::built_in(n, h).leaf_count();
     let tree = Answer::judged(word_of(&set), leaves(model.least_levels()) * leaves(model.greatest_levels()));
     let plain = reference::plain(file, 0, full(n), 1_000_000);
-    let share = reference::share(set.iter().filter(|&&wins| wins).count(), n);
-    line("plain", plain) + &line("tree", tree) + &format!("share {share}\n")
+    line("plain", plain) + &line("tree", tree) + &format!("share {}\n", share_of(&model, &set))
 }
 
 #[test]
@@ -90,7 +89,7 @@ fn every_sample_model_is_judged_and_has_its_page() {
             seen += 1;
         }
     }
-    assert_eq!(seen, 10);
+    assert_eq!(seen, 11);
 }
 
 #[test]
@@ -99,7 +98,7 @@ fn the_sample_models_show_what_their_note_says() {
     assert_eq!(text("models/p.model"), "plain 0000000000000003 3\ntree 0000000000000003 4\nshare 1000\n");
     assert_eq!(text("models/q.model"), "plain 0000000000000000 3\ntree 0000000000000000 4\nshare 0\n");
     assert_eq!(text("models/one-line.model"), "plain 0000000000000000 1\ntree 0000000000000000 1\nshare 0\n");
-    assert!(text("models/incident.model").contains("tree 0000000000000002 9\nshare 333\n"));
+    assert!(text("models/incident.model").contains("tree 0000000000000002 9\nshare 0\n"));
     assert!(text("models/largest.model").starts_with("plain refused 10\n"));
     assert_eq!(
         text("models/tripped.model"),
@@ -113,7 +112,7 @@ fn the_sample_models_show_what_their_note_says() {
     assert!(text("models/pyrometers-old.model").contains("tree 0000000000000017 49\nshare 571\n"));
     assert_eq!(
         text("models/p-and-pyrometers.model"),
-        "plain 000000000000001f 6\ntree 000000000000001f 36\nshare 833\n"
+        "plain 000000000000001f 6\ntree 000000000000001f 36\nshare 1000\n"
     );
 }
 
@@ -149,6 +148,31 @@ fn the_pyrometers_vote_as_their_note_says() {
 }
 
 #[test]
+fn the_spare_lines_count_for_nothing_as_their_note_says() {
+    let lines = [
+        (Kind::All, &[(2, 0), (2, 1), (2, 2)][..]),
+        (Kind::Any, &[(1, 1), (1, 3)]),
+        (Kind::All, &[]),
+        (Kind::Any, &[]),
+        (Kind::All, &[]),
+        (Kind::All, &[]),
+        (Kind::All, &[]),
+        (Kind::All, &[]),
+    ];
+    let of_lines = |lines| reference::Model::of(&[false, true], lines).old_file();
+    let file = bytes_of("models/spares.model");
+    assert_eq!(file, of_lines(&lines));
+    assert_eq!(judged(&file), "plain 00000000000000f4 6\ntree 00000000000000f4 64\nshare 250\n");
+    assert!(paged(&file).starts_with("lines  8 levels 2 share  250 "));
+    // Of all eight lines five are good, which would have been 625.
+    assert_eq!(reference::share(0xf4_u32.count_ones() as usize, 8), 625);
+    // Without the spare lines.
+    let without = of_lines(&lines[..4]);
+    assert_eq!(judged(&without), "plain 0000000000000004 6\ntree 0000000000000004 16\nshare 250\n");
+    assert!(paged(&without).starts_with("lines  4 levels 2 share  250 "));
+}
+
+#[test]
 fn two_more_closed_interlocks_have_the_share_that_the_note_says() {
     let file = bytes_of("models/interlocks.model");
     let mut model = reference::Model::from_file(&file).expect("it is a model");
@@ -173,19 +197,59 @@ fn loops_in_place_of_missing_successors_are_judged_as_the_note_says() {
     assert!(looped(3, 2).contains("tree 000000000000000f 16\n"));
 }
 
+/// The programs must write the reference's texts of this file. The judging program's is returned.
+fn both_programs(file: &[u8]) -> String {
+    let text = judged(file);
+    assert_eq!(text, expected_judgement(file), "{file:?}");
+    assert_eq!(paged(file), expected_page(file), "{file:?}");
+    text
+}
+
 #[test]
 fn shares_of_sixteenths_are_printed() {
     let mut random = Random::new(802);
     for n in [16, 32, 48, 64] {
         for good in (0..=n).step_by(n / 16) {
-            let file = random::model_with_good_lines(&mut random, n, good).file();
-            let text = judged(&file);
-            assert_eq!(text, expected_judgement(&file), "{good} of {n}");
-            assert_eq!(paged(&file), expected_page(&file), "{good} of {n}");
-            // 62.5, 125, 187.5 and so on, a half to the even number.
-            let shares = [0, 62, 125, 188, 250, 312, 375, 438, 500, 562, 625, 688, 750, 812, 875, 938, 1000];
-            assert!(text.ends_with(&format!("\nshare {}\n", shares[16 * good / n])), "{good} of {n}: {text}");
+            // All n lines are met; then with spare lines.
+            let model = random::model_with_good_lines(&mut random, n, good);
+            for spares in [0, random.between(0, 64 - n), 64 - n] {
+                let text = both_programs(&random::with_spares(&mut random, &model, spares).file());
+                // 62.5, 125, 187.5 and so on, a half to the even number.
+                let shares =
+                    [0, 62, 125, 188, 250, 312, 375, 438, 500, 562, 625, 688, 750, 812, 875, 938, 1000];
+                let last = format!("\nshare {}\n", shares[16 * good / n]);
+                assert!(text.ends_with(&last), "{good} of {n}, {spares} spares: {text}");
+            }
         }
+    }
+}
+
+#[test]
+fn only_the_lines_that_are_met_count_in_what_is_printed() {
+    let mut random = Random::new(807);
+    let (mut all, mut spare, mut other_shares) = (0, 0, 0);
+    for n in 1..=64 {
+        for d in 1..=3 {
+            let model = random::sparse_model(&mut random, n, d);
+            let text = both_programs(&random::file(&mut random, &model));
+            let met = word_of(&met_lines(&model));
+            *(if met == full(n) { &mut all } else { &mut spare }) += 1;
+            let good = good_lines(&model).iter().filter(|&&is_good| is_good).count();
+            other_shares += !text.ends_with(&format!("\nshare {}\n", reference::share(good, n))) as usize;
+        }
+    }
+    assert!(all > 15 && spare > 100, "{all} models with all lines met, {spare} others");
+    assert!(other_shares > 50, "only {other_shares} shares would be others if all lines counted");
+    // A chain of 64 lines: of those that are met, one is good, or none where that one stands behind a cut.
+    for (at, cut, share) in [(63, 63, 16), (40, 63, 16), (40, 40, 24), (40, 39, 0), (0, 0, 1000), (63, 0, 0)]
+    {
+        let order = random::order_from_0(&mut random, 64);
+        let mut model = chain(&order, &[false, true]);
+        model.operands[order[cut]].clear();
+        let votes = random.chance(50);
+        let decided = with_one_good_line(&model, order[at], votes);
+        let text = both_programs(&random::file(&mut random, &decided));
+        assert!(text.ends_with(&format!("\nshare {share}\n")), "{at} {cut} {order:?}: {text}");
     }
 }
 
@@ -196,9 +260,7 @@ fn random_files_are_judged_or_refused() {
     for _ in 0..600 {
         let (n, d) = (random.between(1, 64), random.between(1, 4));
         let file = random::troubled_case(&mut random, n, d).file;
-        let text = judged(&file);
-        assert_eq!(text, expected_judgement(&file), "{file:?}");
-        assert_eq!(paged(&file), expected_page(&file), "{file:?}");
+        let text = both_programs(&file);
         *(if text.starts_with("refused") { &mut refused } else { &mut accepted }) += 1;
     }
     assert!(accepted > 50 && refused > 50, "{accepted} accepted, {refused} refused");

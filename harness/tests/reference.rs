@@ -1,14 +1,16 @@
 //! The reference's ways to one set against each other, and against document 01's numbers. The engine is not called.
 
-use harness::random::{self, full, Case, Random, Written, FILE_DAMAGES, WRITTEN_DAMAGES};
+use harness::random::{self, full, Case, Density, Random, Written, FILE_DAMAGES, WRITTEN_DAMAGES};
 use harness::reference::game::winning_lines;
+use harness::reference::met::{chain, ends_of_paths, with_one_good_line, without_spares};
 use harness::reference::model::{Model, Parts};
 use harness::reference::nested::nested;
 use harness::reference::plain::rounds;
 use harness::reference::restricted::restricted;
 use harness::reference::tree::lower_bound_model;
 use harness::reference::votes::{exchanges, without_votes};
-use harness::reference::{self, set_of, word_of, Kind, Operand, Set, Tree};
+use harness::reference::{self, good_lines, met_lines, set_of, share_of, word_of, Kind, Operand, Set, Tree};
+use harness::root;
 
 /// The restricted set over the built-in trees.
 fn over_built_in_trees(model: &Model, a: &[bool], b: &[bool]) -> (Vec<bool>, u64) {
@@ -278,6 +280,200 @@ fn shares_are_rounded_as_floating_point_rounds_to_even() {
             let exact = 1000.0 * good as f64 / n as f64;
             assert_eq!(reference::share(good, n), exact.round_ties_even() as u64, "{good} of {n}");
         }
+    }
+}
+
+#[test]
+fn met_lines_by_hand() {
+    // Lines 0, 2, 3 and 5 are met. Line 1 reads line 0 and is read by none; lines 4 and 6 read each other.
+    for kind in [Kind::Any, Kind::All, Kind::AtLeast(1)] {
+        let lines = [
+            (kind, &[(1, 2), (3, 5)][..]),
+            (kind, &[(2, 0)]),
+            (kind, &[(1, 2), (2, 3)]),
+            (kind, &[(3, 0)]),
+            (kind, &[(1, 6)]),
+            (Kind::All, &[]),
+            (kind, &[(3, 4)]),
+        ];
+        let model = Model::of(&[false, true, false], &lines);
+        assert_eq!(word_of(&met_lines(&model)), 0b10_1101);
+        let ends: Vec<u64> = ends_of_paths(&model).take(5).map(|ends| word_of(&ends)).collect();
+        assert_eq!(ends, [0b1, 0b10_0100, 0b1100, 0b1101, 0b10_1101]);
+    }
+}
+
+#[test]
+fn the_met_lines_are_the_least_set_with_line_0_that_no_operand_leaves() {
+    let mut random = Random::new(114);
+    let (mut all, mut spare) = (0, 0);
+    for _ in 0..2000 {
+        let (n, d) = (random.between(1, 8), random.between(1, 8));
+        let model = random::sparse_model(&mut random, n, d);
+        let stays = |set: &Set| {
+            (0..n).filter(|&i| set[i]).all(|i| model.operands[i].iter().all(|operand| set[operand.line]))
+        };
+        let closed = (0..1 << n).filter(|word| word & 1 == 1).filter(|&word| stays(&set_of(word, n)));
+        let least = closed.fold(full(n), |least, word| least & word);
+        assert_eq!(word_of(&met_lines(&model)), least, "{model:?}");
+        *(if least == full(n) { &mut all } else { &mut spare }) += 1;
+    }
+    assert!(all > 500 && spare > 500, "{all} models with all lines met, {spare} others");
+}
+
+/// For each two lines, whether the second can be met from the first by one operand or more: Warshall's closure.
+fn closure(model: &Model) -> Vec<Set> {
+    let n = model.lines();
+    let mut leads = vec![vec![false; n]; n];
+    for (i, operands) in model.operands.iter().enumerate() {
+        for operand in operands {
+            leads[i][operand.line] = true;
+        }
+    }
+    for by in 0..n {
+        for i in 0..n {
+            for j in 0..n {
+                leads[i][j] |= leads[i][by] && leads[by][j];
+            }
+        }
+    }
+    leads
+}
+
+#[test]
+fn the_met_lines_are_those_of_warshalls_closure() {
+    let mut random = Random::new(115);
+    let (mut all, mut spare) = (0, 0);
+    for n in 1..=64 {
+        for d in 1..=8 {
+            for _ in 0..3 {
+                let model = random::sparse_model(&mut random, n, d);
+                let mut expected = closure(&model).swap_remove(0);
+                expected[0] = true;
+                assert_eq!(met_lines(&model), expected, "{model:?}");
+                *(if expected.iter().all(|&met| met) { &mut all } else { &mut spare }) += 1;
+            }
+        }
+    }
+    assert!(all > 100 && spare > 100, "{all} models with all lines met, {spare} others");
+}
+
+#[test]
+fn a_chain_is_met_link_by_link() {
+    let mut random = Random::new(116);
+    for n in 1..=64 {
+        let order = random::order_from_0(&mut random, n);
+        let d = random.between(1, 8);
+        let signs = random::signs(&mut random, d);
+        let mut model = chain(&order, &signs);
+        assert_eq!(met_lines(&model), vec![true; n], "{order:?}");
+        for (ends, &line) in ends_of_paths(&model).zip(&order) {
+            assert_eq!(word_of(&ends), 1 << line, "{order:?}");
+        }
+        // Cut behind a line, it is met up to there.
+        let last = random.between(0, n - 1);
+        model.operands[order[last]].clear();
+        let before: u64 = order[..=last].iter().map(|line| 1 << line).sum();
+        assert_eq!(word_of(&met_lines(&model)), before, "{order:?} cut behind line {}", order[last]);
+    }
+}
+
+#[test]
+fn one_line_alone_is_good_and_the_same_lines_are_met() {
+    let mut random = Random::new(117);
+    for _ in 0..1000 {
+        let (n, d) = (random.between(1, 64), random.between(2, 8));
+        let signs = random::alternating(d, random.chance(50));
+        let model = random::model(&mut random, n, &signs, Density::Few);
+        let line = random.between(0, n - 1);
+        for votes in [false, true] {
+            let decided = with_one_good_line(&model, line, votes);
+            assert_eq!(word_of(&good_lines(&decided)), 1 << line, "{line} {model:?}");
+            assert_eq!(met_lines(&decided), met_lines(&model), "{line} {model:?}");
+            assert!((0..n).all(|i| decided.is_vote(i) == votes));
+        }
+    }
+}
+
+#[test]
+fn models_with_good_lines_have_so_many_and_spares_leave_their_share() {
+    let mut random = Random::new(118);
+    let count = |set: &[bool]| set.iter().filter(|&&is_in| is_in).count();
+    let (mut voted, mut good_spares, mut other_spares, mut other_shares) = (0, 0, 0, 0);
+    for n in 1..=64 {
+        for good in 0..=n {
+            let model = random::model_with_good_lines(&mut random, n, good);
+            let set = good_lines(&model);
+            assert_eq!((count(&set), met_lines(&model)), (good, vec![true; n]), "{model:?}");
+            assert_eq!(share_of(&model, &set), reference::share(good, n));
+            voted += model.has_votes() as usize;
+            if n == 64 {
+                continue;
+            }
+            let spares = random.between(1, 64 - n);
+            let longer = random::with_spares(&mut random, &model, spares);
+            let (set, met) = (good_lines(&longer), met_lines(&longer));
+            let both: Vec<bool> = (0..n + spares).map(|i| set[i] && met[i]).collect();
+            assert_eq!((longer.lines(), count(&met), count(&both)), (n + spares, n, good), "{longer:?}");
+            assert_eq!(share_of(&longer, &set), reference::share(good, n));
+            assert_eq!(longer.has_votes(), model.has_votes());
+            good_spares += count(&set) - good;
+            other_spares += spares - (count(&set) - good);
+            // With the spares counted, the share would be another one.
+            other_shares += (reference::share(count(&set), n + spares) != reference::share(good, n)) as usize;
+        }
+    }
+    assert!(good_spares > 5000 && other_spares > 5000, "{good_spares} good spares, {other_spares} others");
+    assert!((500..1700).contains(&voted), "{voted} models with votes");
+    assert!(other_shares > 1500, "only {other_shares} other shares with the spares counted");
+}
+
+#[test]
+fn lines_that_are_not_met_can_be_left_out() {
+    let mut random = Random::new(119);
+    let mut shorter = 0;
+    for _ in 0..1000 {
+        let (n, d) = (random.between(1, 64), random.between(1, 4));
+        let model = random::sparse_model(&mut random, n, d);
+        let without = without_spares(&model);
+        let shares = [&model, &without].map(|model| share_of(model, &good_lines(model)));
+        assert_eq!(shares[0], shares[1], "{model:?}");
+        assert_eq!(met_lines(&without), vec![true; without.lines()], "{model:?}");
+        shorter += (without.lines() < n) as usize;
+    }
+    assert!(shorter > 500, "only {shorter} models had spare lines");
+}
+
+#[test]
+fn no_line_of_the_second_of_two_joined_models_is_met() {
+    let mut random = Random::new(120);
+    for _ in 0..500 {
+        let (n, d) = (random.between(1, 63), random.between(1, 8));
+        let m = random.between(1, 64 - n);
+        let models = random::models_alike(&mut random, [n, m], d);
+        let expected = [met_lines(&models[0]), vec![false; m]].concat();
+        assert_eq!(met_lines(&models[0].joined(&models[1])), expected, "{models:?}");
+    }
+}
+
+#[test]
+fn met_lines_and_shares_of_the_sample_models() {
+    for (name, met, share) in [
+        ("p", 0x3, 1000),
+        ("q", 0x3, 0),
+        ("one-line", 0x1, 0),
+        ("incident", 0x1, 0),
+        ("tripped", 0xf, 750),
+        ("interlocks", 0xffff, 62),
+        ("pyrometers", 0xf, 750),
+        ("pyrometers-old", 0x7f, 571),
+        ("p-and-pyrometers", 0x3, 1000),
+        ("spares", 0xf, 250),
+    ] {
+        let file = std::fs::read(root(&format!("models/{name}.model"))).expect("it is there");
+        let model = Model::from_file(&file).expect("it is a model");
+        assert_eq!(word_of(&met_lines(&model)), met, "{name}");
+        assert_eq!(share_of(&model, &good_lines(&model)), share, "{name}");
     }
 }
 

@@ -194,17 +194,68 @@ fn lines_without_operands() {
     }
 }
 
+/// The first row of the page of a file of n lines.
+fn first_row(file: &[u8], n: usize) -> String {
+    let mut page = vec![0; 41 * (n + 1)];
+    assert_eq!(ffi::page(file, &mut page), Answer { length: page.len() as u64, ..Answer::default() });
+    String::from_utf8_lossy(&page[..41]).into_owned()
+}
+
 #[test]
 fn shares_at_a_half() {
     // 1000 / 16 is 62.5 and 3000 / 16 is 187.5; the even neighbours are 62 and 188.
     for (good, share) in [(1, "  62"), (3, " 188")] {
-        let kinds = (0..16).map(|i| if i < good { Kind::All } else { Kind::Any }).collect();
-        let file = Model { greatest: vec![false], kinds, operands: vec![Vec::new(); 16] }.file();
-        let mut page = [0; 41 * 17];
-        assert_eq!(ffi::page(&file, &mut page), Answer { length: 41 * 17, ..Answer::default() });
-        let row = format!("lines 16 levels 1 share {share}            \n");
-        assert_eq!(String::from_utf8_lossy(&page[..41]), row);
+        for spares in [0, 1, 2, 16, 48] {
+            // Line 0 is all of lines 1 to 15, the last of which are all of none and the others any of none, and so are the spare lines.
+            let n = 16 + spares;
+            let all = |i: usize| i == 0 || (16 - good..16 + spares / 2).contains(&i);
+            let kinds = (0..n).map(|i| if all(i) { Kind::All } else { Kind::Any }).collect();
+            let mut operands = vec![Vec::new(); n];
+            operands[0] = (1..16).map(|line| Operand { level: 0, line }).collect();
+            let file = Model { greatest: vec![false], kinds, operands }.file();
+            assert_eq!(ffi::built(&file, 0, full(n)).set.count_ones() as usize, good + spares / 2);
+            assert_eq!(first_row(&file, n), format!("lines {n} levels 1 share {share}            \n"));
+        }
     }
+}
+
+#[test]
+fn spare_lines_do_not_count() {
+    // Level 1 least, level 2 greatest. Line 0 is any of (level 2, line 2) and line 2 any of itself at level 1, so that neither is good.
+    // Line 1 is all of none, and line 3 all of (level 1, line 0) and of itself at level 2; no other line reads these two.
+    let lines = [
+        (Kind::Any, &[(2, 2)][..]),
+        (Kind::All, &[]),
+        (Kind::Any, &[(1, 2)]),
+        (Kind::All, &[(1, 0), (2, 3)]),
+    ];
+    let mut model = Model::of(&[false, true], &lines);
+    let compare = |model: &Model, set: u64, share: &str| {
+        let mut files = vec![model.file()];
+        files.extend((!model.has_votes()).then(|| model.old_file()));
+        for file in files {
+            assert_eq!(ffi::built(&file, 0, 15).set, set);
+            assert_eq!(first_row(&file, 4), format!("lines  4 levels 2 share {share}            \n"));
+        }
+    };
+    compare(&model, 0b0010, "   0");
+    // Line 2 of itself at level 2 is good, by it line 0, and by that line 3.
+    model.operands[2][0].level = 1;
+    compare(&model, 0b1111, "1000");
+    model.kinds[1] = Kind::Any;
+    compare(&model, 0b1101, "1000");
+    // Line 2 reads line 1, too: of three lines that are met, two are good, and then three.
+    model.operands[2].insert(0, Operand { level: 0, line: 1 });
+    compare(&model, 0b1101, " 667");
+    model.kinds[2] = Kind::AtLeast(1);
+    compare(&model, 0b1101, " 667");
+    model.kinds[1] = Kind::All;
+    compare(&model, 0b1111, "1000");
+    // Two votes of two, by line 1 at level 1.
+    model.kinds[2] = Kind::AtLeast(2);
+    compare(&model, 0b1111, "1000");
+    model.kinds[1] = Kind::Any;
+    compare(&model, 0b0000, "   0");
 }
 
 #[test]

@@ -1,6 +1,7 @@
-//! The bench page over the judgement of `by_levels`: items put one behind the other, as the engine puts them.
+//! The bench page over the judgement of `by_levels`: items put one behind the other, as the engine puts them, and the share of the lines
+//! that a search over words meets.
 
-use super::{by_levels, full_set, Model};
+use super::{by_levels, full_set, u64_at, Model, MAX_LINES};
 use crate::Answer;
 use std::cmp::Ordering;
 
@@ -48,6 +49,28 @@ fn share(good: u64, n: u64) -> u64 {
     }
 }
 
+/// The lines that can be met from line 0: each is followed once, the lowest first.
+fn met(m: Model) -> u64 {
+    // The operands of each line, at whatever level.
+    let mut next = [0; MAX_LINES];
+    for (next, line) in next.iter_mut().zip(m.file[m.words_at()..].chunks_exact(8 * m.levels)) {
+        *next = line.chunks_exact(8).fold(0, |lines, word| lines | u64_at(word, 0));
+    }
+    let all = full_set(m.lines);
+    let (mut found, mut followed) = (1_u64, 0);
+    while followed != found {
+        let i = (found ^ followed).trailing_zeros() as usize;
+        followed |= 1 << i;
+        found |= next[i] & all;
+    }
+    found
+}
+
+/// The same of a file that is not refused.
+pub fn met_lines(file: &[u8]) -> Result<u64, u64> {
+    Model::check(file).map(met)
+}
+
 pub fn page(file: &[u8], buffer: &mut [u8]) -> Answer {
     let m = match Model::check(file) {
         Ok(m) => m,
@@ -58,7 +81,8 @@ pub fn page(file: &[u8], buffer: &mut [u8]) -> Answer {
     if buffer.len() < (ROW_PLACES + 1) * (n + 1) {
         return Answer::refused(12);
     }
-    let share = share(set.count_ones() as u64, n as u64);
+    let met = met(m);
+    let share = share((set & met).count_ones() as u64, met.count_ones() as u64);
     let mut at = put(buffer, 0, b"lines ");
     at = put_right(buffer, at, 2, n as u64);
     at = put(buffer, at, b" levels ");

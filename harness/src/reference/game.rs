@@ -30,6 +30,12 @@ pub fn winning_lines(model: &Model, a: &[bool], b: &[bool]) -> Set {
     won
 }
 
+/// The good lines: the nested fixpoint between empty and full.
+pub fn good_lines(model: &Model) -> Set {
+    let n = model.lines();
+    winning_lines(model, &vec![false; n], &vec![true; n])
+}
+
 /// Positions: the lines, then each line that is read at a level, as valued there. An even priority is the verifier's; a
 /// level's is even if it is greatest, and above that of each level inside it. A line's own never decides.
 fn game_of(model: &Model, a: &[bool], b: &[bool]) -> Game {

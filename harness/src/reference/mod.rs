@@ -1,7 +1,9 @@
 //! Document 01 once more, written for clarity and without the engine's ways: sets are lists of booleans, operands
-//! are visited one by one, trees are linked nodes, fixed points are taken by their definition or from a game.
+//! are visited one by one, trees are linked nodes, fixed points are taken by their definition or from a game, lines are met
+//! by paths.
 
 pub mod game;
+pub mod met;
 pub mod model;
 pub mod nested;
 mod operations;
@@ -11,7 +13,9 @@ pub mod restricted;
 pub mod tree;
 pub mod votes;
 
+pub use game::good_lines;
+pub use met::met_lines;
 pub use model::{set_of, word_of, Kind, Model, Operand, Set};
 pub use operations::{built, join, judgeable, leaf_count, lent, plain, put, query, read, write};
-pub use page::{page, page_text, share};
+pub use page::{page, page_text, share, share_of};
 pub use tree::Tree;

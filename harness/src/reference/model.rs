@@ -58,6 +58,16 @@ fn number(bytes: &[u8]) -> u64 {
 }
 
 impl Model {
+    /// The model with these signs and these lines, each with its kind and its operands by level, from 1, and line.
+    pub fn of(greatest: &[bool], lines: &[(Kind, &[(usize, usize)])]) -> Model {
+        let operand = |&(level, line): &(usize, usize)| Operand { level: level - 1, line };
+        Model {
+            greatest: greatest.to_vec(),
+            kinds: lines.iter().map(|&(kind, _)| kind).collect(),
+            operands: lines.iter().map(|(_, operands)| operands.iter().map(operand).collect()).collect(),
+        }
+    }
+
     pub fn lines(&self) -> usize {
         self.kinds.len()
     }
@@ -120,6 +130,23 @@ impl Model {
             kinds: self.kinds.iter().zip(&self.operands).map(dual).collect(),
             operands: self.operands.clone(),
         }
+    }
+
+    /// Makes line i good or not, whatever its other operands are: any of them and of itself at a greatest level, or all of them and
+    /// of itself at a least one, and as a vote the same. There is such a level.
+    pub fn decide_by_itself(&mut self, i: usize, good: bool, vote: bool) {
+        let level = self.greatest.iter().position(|&greatest| greatest == good);
+        let itself = Operand { level: level.expect("there is such a level"), line: i };
+        if !self.operands[i].contains(&itself) {
+            self.operands[i].push(itself);
+            self.operands[i].sort();
+        }
+        self.kinds[i] = match (good, vote) {
+            (true, false) => Kind::Any,
+            (false, false) => Kind::All,
+            (true, true) => Kind::AtLeast(1),
+            (false, true) => Kind::AtLeast(self.operands[i].len()),
+        };
     }
 
     /// This model's lines and behind them those of another one, which has its signs.

@@ -1,9 +1,9 @@
 //! The share, and the bench page laid out by Rust's own formatting. The good lines are those that win the game.
 
-use super::game::winning_lines;
-use super::model::{set_of, Kind, Model};
+use super::game::good_lines;
+use super::met::met_lines;
+use super::model::{Kind, Model};
 use super::operations::put;
-use crate::random::full;
 use crate::Answer;
 
 /// 1000 × good lines / n, rounded: of all whole numbers that a share can be, the nearest, and the even one of two.
@@ -12,11 +12,18 @@ pub fn share(good: usize, n: usize) -> u64 {
     (0..=1000).min_by_key(|&whole| (distance(whole), whole % 2)).expect("there are some") as u64
 }
 
+/// The share of a model with these good lines. The lines that can be met from line 0 count, and no other.
+pub fn share_of(model: &Model, good: &[bool]) -> u64 {
+    let met = met_lines(model);
+    let of_met: Vec<bool> = (0..met.len()).filter(|&i| met[i]).map(|i| good[i]).collect();
+    share(of_met.iter().filter(|&&is_good| is_good).count(), of_met.len())
+}
+
 /// The page of a model between empty and full.
 pub fn page_text(model: &Model) -> String {
     let (n, d) = (model.lines(), model.levels());
-    let good = winning_lines(model, &set_of(0, n), &set_of(full(n), n));
-    let share = share(good.iter().filter(|&&wins| wins).count(), n);
+    let good = good_lines(model);
+    let share = share_of(model, &good);
     let mut rows = vec![format!("lines {n:>2} levels {d:>1} share {share:>4}")];
     for i in 0..n {
         let kind = match model.kinds[i] {
