@@ -1,13 +1,10 @@
 -- Of two systems joined in one (request W6) the lines of the first alone can be met from line 0, and the same as before: the joined share is the first's.
 -- Assumes nothing.
-use mathlib.Core.Bool.{true}
-use mathlib.Core.List.{List}
-use mathlib.Core.Path.{_≡_, sym, _∙_, ap, subst}
+use mathlib.Core.Path.{_≡_, sym, _∙_, ap}
 use Prim.Native.Nat.{ℕ, _^_, _≤_, _<_}
 use native.Mathlib.Omega.{arith}
 use lib.Bits.{and-zero-r}
-use lib.ListN.{getD}
-use Rattle.sets.specs.Set.{isMember, intersection, members}
+use Rattle.sets.specs.Set.{intersection, members}
 use Rattle.sets.specs.SideBySide.{sideBySide}
 use Rattle.sets.proofs.Order.{member-le, antisym⊑}
 use Rattle.sets.proofs.SideBySide.{beside-meet}
@@ -15,7 +12,7 @@ use Rattle.system.specs.System.{System, WellFormed}
 use Rattle.system.specs.Joined.{joined, Joinable}
 use Rattle.system.proofs.JoinedLines.{words-first}
 use Rattle.system.proofs.Joined.{joined-formed}
-use Rattle.reach.specs.Met.{here, onward}
+use Rattle.reach.proofs.Search.{met-along}
 use Rattle.share.specs.Share.{shareOf}
 use Rattle.met_lines.specs.Met.{IsOperand, MetLine}
 use Rattle.met_lines.specs.MetLines.{metLines, metShare}
@@ -23,24 +20,23 @@ use Rattle.met_lines.proofs.Search.{operand-line, met-below, met-exactl
 
 module _ (m₁ m₂ : System) (W₁ : WellFormed m₁) (W₂ : WellFormed m₂) (J : Joinable m₁ m₂) (some : 1 ≤ m₁ .lines) where
   -- a path stays among the lines of the first, which keep their words
-  from-joined : {j : ℕ} → MetLine (joined m₁ m₂) j → (j < m₁ .lines) × MetLine m₁ j
-  from-joined here = (some, here)
-  from-joined (onward {q} {r} t s) =
-      let (low, path) = from-joined t in
-      let step : IsOperand m₁ q r = (s .0, subst (λ (ws : List ℕ). isMember (getD ws (s .0) 0) r ≡ true) (words-first m₁ m₂ W₁ W₂ J q low) (s .1)) in
-      (operand-line m₁ W₁ some q r step, onward path step)
+  from-joined : {j : ℕ} → MetLine (joined m₁ m₂) j → MetLine m₁ j
+  from-joined t = met-along (λ j. j < m₁ .lines) (λ i j low s. let same = step i j low s in (operand-line m₁ W₁ some i j same, same)) some t .1
+    where
+      step : (i j : ℕ) → i < m₁ .lines → IsOperand (joined m₁ m₂) i j → IsOperand m₁ i j
+      step i j low (k, h) = (k, rw (words-first m₁ m₂ W₁ W₂ J i low) at h)
 
-  to-joined : {j : ℕ} → MetLine m₁ j → (j < m₁ .lines) × MetLine (joined m₁ m₂) j
-  to-joined here = (some, here)
-  to-joined (onward {q} {r} t s) =
-      let (low, path) = to-joined t in
-      (operand-line m₁ W₁ some q r s, onward path (s .0, subst (λ (ws : List ℕ). isMember (getD ws (s .0) 0) r ≡ true) (sym (words-first m₁ m₂ W₁ W₂ J q low)) (s .1)))
+  to-joined : {j : ℕ} → MetLine m₁ j → MetLine (joined m₁ m₂) j
+  to-joined t = met-along (λ j. j < m₁ .lines) (λ i j low s. (operand-line m₁ W₁ some i j s, step i j low s)) some t .1
+    where
+      step : (i j : ℕ) → i < m₁ .lines → IsOperand m₁ i j → IsOperand (joined m₁ m₂) i j
+      step i j low (k, h) = (k, rw (words-first m₁ m₂ W₁ W₂ J i low) h)
 
   pub met-joined : metLines (joined m₁ m₂) ≡ metLines m₁
   met-joined =
       let first = met-exactly m₁ W₁ some in
       let both = met-exactly (joined m₁ m₂) (joined-formed m₁ m₂ W₁ W₂ J) (omega arith) in
-      antisym⊑ (member-le _ _ (λ j h. first j .1 (from-joined (both j .0 h) .1))) (member-le _ _ (λ j h. both j .1 (to-joined (first j .0 h) .1)))
+      antisym⊑ (member-le _ _ (λ j h. first j .1 (from-joined (both j .0 h)))) (member-le _ _ (λ j h. both j .1 (to-joined (first j .0 h))))
 
   -- what is good of the second does not count
   good-met : (x y : ℕ) → x < 2 ^ m₁ .lines → intersection (sideBySide (m₁ .lines) x y) (metLines m₁) ≡ intersection x (metLines m₁)

@@ -17,7 +17,8 @@ unionOf (w ∷ ws) = union w (unionOf ws)
 abbrev pub operandSet : System → ℕ → ℕ
 operandSet m i = unionOf (wordsOf m i)
 
--- what a search finds that begins with line 0 and goes from lines to their operands; `met-exactly` in proofs/Met says that these are the lines that can be met
+-- What a search finds that begins with line 0, the set 1, and goes from lines to their operands. `met-exactly` in proofs/Search says that these are just the lines
+-- that can be met.
 unfoldable pub metLines : System → ℕ
 metLines m = reached (m .lines) (operandSet m) (full (m .lines)) 1
 

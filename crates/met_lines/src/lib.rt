@@ -9,7 +9,7 @@ use model::Model;
 use model::words_in;
 use numbers::u64_at;
 
-// The lines that the d words from an offset on select.
+// The lines that the d words from an offset on select. The last word is taken first, as the definition nests them.
 fn operand_set(file: &[u8], at: usize, d: usize) -> u64
     requires { ⌜ (d ≤ 8) × (at + 8 * d ≤ length (now file)) ⌝ }
     ensures { λ r. ⌜ r ≡ unionOf (wordsFrom d (drop at (now (file .entry)))) ⌝ }

@@ -27,15 +27,21 @@ pub met-from : {Step : ℕ → ℕ → Type 0} {p q r : ℕ} → Step p q → Me
 met-from s here = onward here s
 met-from s (onward t u) = onward (met-from s t) u
 
+-- a path keeps what its steps keep, and other steps can be taken for them
+pub met-along : {R S : ℕ → ℕ → Type 0} (P : ℕ → Type 0) → ((p q : ℕ) → P p → R p q → P q × S p q) → {p q : ℕ} → P p → Met R p q → P q × Met S p q
+met-along P steps h here = (h, here)
+met-along P steps h (onward {q} {r} t s) =
+    let (kept, path) = met-along P steps h t in
+    let (next, step) = steps q r kept s in
+    (next, onward path step)
+
 -- other steps for the same path
 pub met-map : {R S : ℕ → ℕ → Type 0} → ((p q : ℕ) → R p q → S p q) → {p q : ℕ} → Met R p q → Met S p q
-met-map f here = here
-met-map f (onward {q} {r} t s) = onward (met-map f t) (f q r s)
+met-map f t = met-along (λ _. Unit {0}) (λ p q h s. (h, f p q s)) tt t .1
 
 -- a set that no step leaves has all that can be met from its members
 pub met-inside : {Step : ℕ → ℕ → Type 0} (x : ℕ) → ((p q : ℕ) → In x p → Step p q → In x q) → {p q : ℕ} → In x p → Met Step p q → In x q
-met-inside x closed i here = i
-met-inside x closed i (onward {q} {r} t s) = closed q r (met-inside x closed i t) s
+met-inside x closed i t = met-along (In x) (λ p q h s. (closed p q h s, s)) i t .0
 
 -- ---- one round ----
 
