@@ -1,6 +1,6 @@
 -- Of two systems joined in one (request W6) the lines of the first alone can be met from line 0, and the same as before: the joined share is the first's.
 -- Assumes nothing.
-use mathlib.Core.Path.{_≡_, sym, _∙_, ap}
+use mathlib.Core.Path.{_≡_, refl, sym, _∙_, ap}
 use Prim.Native.Nat.{ℕ, _^_, _≤_, _<_}
 use native.Mathlib.Omega.{arith}
 use lib.Bits.{and-zero-r}
@@ -9,6 +9,7 @@ use Rattle.sets.specs.SideBySide.{sideBySide}
 use Rattle.sets.proofs.Order.{member-le, antisym⊑}
 use Rattle.sets.proofs.SideBySide.{beside-meet}
 use Rattle.system.specs.System.{System, WellFormed}
+use Rattle.system.specs.Query.{wordsOf}
 use Rattle.system.specs.Joined.{joined, Joinable}
 use Rattle.system.proofs.JoinedLines.{words-first}
 use Rattle.system.proofs.Joined.{joined-formed}
@@ -19,24 +20,23 @@ use Rattle.met_lines.specs.MetLines.{metLines, metShare}
 use Rattle.met_lines.proofs.Search.{operand-line, met-below, met-exactly}
 
 module _ (m₁ m₂ : System) (W₁ : WellFormed m₁) (W₂ : WellFormed m₂) (J : Joinable m₁ m₂) (some : 1 ≤ m₁ .lines) where
-  -- a path stays among the lines of the first, which keep their words
-  from-joined : {j : ℕ} → MetLine (joined m₁ m₂) j → MetLine m₁ j
-  from-joined t = met-along (λ j. j < m₁ .lines) (λ i j low s. let same = step i j low s in (operand-line m₁ W₁ some i j same, same)) some t .1
+  -- a path stays among the lines of the first, and goes as well in any system that has their words there
+  moved : (a b : System) → ((i : ℕ) → i < m₁ .lines → wordsOf a i ≡ wordsOf m₁ i) → ((i : ℕ) → i < m₁ .lines → wordsOf b i ≡ wordsOf m₁ i)
+      → {j : ℕ} → MetLine a j → MetLine b j
+  moved a b in-a in-b t = met-along (λ j. j < m₁ .lines) step some t .1
     where
-      step : (i j : ℕ) → i < m₁ .lines → IsOperand (joined m₁ m₂) i j → IsOperand m₁ i j
-      step i j low (k, h) = (k, rw (words-first m₁ m₂ W₁ W₂ J i low) at h)
-
-  to-joined : {j : ℕ} → MetLine m₁ j → MetLine (joined m₁ m₂) j
-  to-joined t = met-along (λ j. j < m₁ .lines) (λ i j low s. (operand-line m₁ W₁ some i j s, step i j low s)) some t .1
-    where
-      step : (i j : ℕ) → i < m₁ .lines → IsOperand m₁ i j → IsOperand (joined m₁ m₂) i j
-      step i j low (k, h) = (k, rw (words-first m₁ m₂ W₁ W₂ J i low) h)
+      step : (i j : ℕ) → i < m₁ .lines → IsOperand a i j → (j < m₁ .lines) × IsOperand b i j
+      step i j low (k, h) =
+          let kept = rw (in-a i low) at h in
+          (operand-line m₁ W₁ some i j (k, kept), (k, rw (in-b i low) kept))
 
   pub met-joined : metLines (joined m₁ m₂) ≡ metLines m₁
   met-joined =
+      let own : (i : ℕ) → i < m₁ .lines → wordsOf m₁ i ≡ wordsOf m₁ i = λ i low. refl in
+      let same = words-first m₁ m₂ W₁ W₂ J in
       let first = met-exactly m₁ W₁ some in
       let both = met-exactly (joined m₁ m₂) (joined-formed m₁ m₂ W₁ W₂ J) (omega arith) in
-      antisym⊑ (member-le _ _ (λ j h. first j .1 (from-joined (both j .0 h)))) (member-le _ _ (λ j h. both j .1 (to-joined (first j .0 h))))
+      antisym⊑ (member-le _ _ (λ j h. first j .1 (moved (joined m₁ m₂) m₁ same own (both j .0 h)))) (member-le _ _ (λ j h. both j .1 (moved m₁ (joined m₁ m₂) own same (first j .0 h))))
 
   -- what is good of the second does not count
   good-met : (x y : ℕ) → x < 2 ^ m₁ .lines → intersection (sideBySide (m₁ .lines) x y) (metLines m₁) ≡ intersection x (metLines m₁)
