@@ -1,4 +1,4 @@
-// Document 01's samples: the models and the table of the samples that are proved (specs/), and this program, which runs the others.
+// Runs those of document 01's samples that are not proved; the others are the table of the crate `samples`.
 // Its stored output is what document 01 says of them, what requests W3 and W4 say of the shares and the votes, and P's bench page.
 use answers::Refusal;
 use libc::STDOUT_FILENO;
