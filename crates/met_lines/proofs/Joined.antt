@@ -21,9 +21,9 @@ use Rattle.met_lines.proofs.Search.{operand-line, met-below, met-exactl
 
 module _ (m₁ m₂ : System) (W₁ : WellFormed m₁) (W₂ : WellFormed m₂) (J : Joinable m₁ m₂) (some : 1 ≤ m₁ .lines) where
   -- a path stays among the lines of the first, and goes as well in any system that has their words there
-  moved : (a b : System) → ((i : ℕ) → i < m₁ .lines → wordsOf a i ≡ wordsOf m₁ i) → ((i : ℕ) → i < m₁ .lines → wordsOf b i ≡ wordsOf m₁ i)
+  same-path : (a b : System) → ((i : ℕ) → i < m₁ .lines → wordsOf a i ≡ wordsOf m₁ i) → ((i : ℕ) → i < m₁ .lines → wordsOf b i ≡ wordsOf m₁ i)
       → {j : ℕ} → MetLine a j → MetLine b j
-  moved a b in-a in-b t = met-along (λ j. j < m₁ .lines) step some t .1
+  same-path a b in-a in-b t = met-along (λ j. j < m₁ .lines) step some t .1
     where
       step : (i j : ℕ) → i < m₁ .lines → IsOperand a i j → (j < m₁ .lines) × IsOperand b i j
       step i j low (k, h) =
@@ -36,7 +36,7 @@ module _ (m₁ m₂ : System) (W₁ : WellFormed m₁) (W₂ : WellFormed m₂) 
       let same = words-first m₁ m₂ W₁ W₂ J in
       let first = met-exactly m₁ W₁ some in
       let both = met-exactly (joined m₁ m₂) (joined-formed m₁ m₂ W₁ W₂ J) (omega arith) in
-      antisym⊑ (member-le _ _ (λ j h. first j .1 (moved (joined m₁ m₂) m₁ same own (both j .0 h)))) (member-le _ _ (λ j h. both j .1 (moved m₁ (joined m₁ m₂) own same (first j .0 h))))
+      antisym⊑ (member-le _ _ (λ j h. first j .1 (same-path (joined m₁ m₂) m₁ same own (both j .0 h)))) (member-le _ _ (λ j h. both j .1 (same-path m₁ (joined m₁ m₂) own same (first j .0 h))))
 
   -- what is good of the second does not count
   good-met : (x y : ℕ) → x < 2 ^ m₁ .lines → intersection (sideBySide (m₁ .lines) x y) (metLines m₁) ≡ intersection x (metLines m₁)
