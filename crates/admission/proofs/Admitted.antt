@@ -1,15 +1,16 @@
 -- What it means that a file and its bounds are admitted: the file is whole, the bounds are a range of its lines, and no number up to 9 applies.
--- From no line to all lines, 9 never applies.
+-- From no line to all lines, 9 never applies. 10 is no number of theirs.
 -- Assumes nothing.
 use mathlib.Core.Bool.{Bool, false, not, _||_}
 use mathlib.Mathlib.Data.Bool.Basic.{or-eq-false-eq-eq-false-and-eq-false as neither}
 use mathlib.Core.List.{List, [], _∷_, _++_}
 use mathlib.Core.Path.{_≡_, refl, sym, ap₂, subst}
 use Prim.Native.Nat.{ℕ, _≤_}
+use native.Mathlib.Omega.{arith}
 use borrow.Author.Tests.{not-false}
 use Rattle.answers.specs.Check.{Check, _if_, firstOf, unless}
 use Rattle.answers.specs.declared.Refusal.{Refusal}
-use Rattle.answers.proofs.Checks.{Passes, passes-both, passes-none, none-first, after-none, before-passes}
+use Rattle.answers.proofs.Checks.{Passes, passes-both, passes-none, none-first, first-other, after-none, before-passes}
 use Rattle.sets.specs.Set.{full, isWithin}
 use Rattle.sets.proofs.Order.{refl⊑, empty-least, within-le, le-within}
 use Rattle.sets.proofs.Range.{full-below}
@@ -74,6 +75,11 @@ module _ (file : List ℕ) (a b : ℕ) where
 
     pub turned-down : {e : Refusal} → r ≡ reading.Refused e → RefusedAs (boundNumber file a b) e
     turned-down = refused-as (boundNumber file a b) (linesIn file) (levelsIn file) says
+
+  -- 10 is left to the ceilings
+  pub never-ten : boundNumber file a b ≡ 10 → ⊥
+  unfolding boundNumber
+  never-ten = first-other 10 (boundChecks file a b) refl (omega arith)
 
   -- the number of an operation that makes more checks behind these
   pub after-bounds : (more : List Check) → boundNumber file a b ≡ 0 → firstOf (boundChecks file a b ++ more) ≡ firstOf more

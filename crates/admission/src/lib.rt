@@ -1,10 +1,12 @@
-// What judging turns down before it begins: a file that checking refuses, misplaced bounds, a bad lent tree. Definitions: specs/.
+// What judging turns down before it begins: a file that checking refuses, misplaced bounds, a bad lent tree; and the forecast of judging by built-in trees,
+// which its ceiling is held against. Definitions: specs/.
 ghost use mathlib.Core.Path.{_≡_};
 ghost use Prim.Native.Nat.{_≤_};
 ghost use Rattle.answers.specs.Check.{unless};
 ghost use Rattle.model.specs.File.{linesIn, levelsIn};
+ghost use Rattle.model.specs.Held.{Held, systemIn};
 ghost use Rattle.model.specs.Says.{readingAnswer, sized};
-ghost use Rattle.admission.specs.Checks.{misplaced, badTree, boundNumber};
+ghost use Rattle.admission.specs.Checks.{misplaced, badTree, boundNumber, forecast};
 use answers::Refusal;
 use model::Model;
 use model::Reading;
@@ -57,4 +59,14 @@ pub fn tree_is_bad(gaps: &[u8], h: usize) -> bool
         i += 1;
     }
     false
+}
+
+// How many queries judging by built-in trees will make: the leaves of both trees, multiplied.
+pub fn forecast(file: &[u8], m: Model) -> u64
+    requires { ⌜ Held (now file) m ⌝ }
+    ensures { λ r. ⌜ r ≡ forecast (systemIn (now (file .entry)) m) ⌝ }
+{
+    let least = routes::count_least(file, m);
+    let greatest = m.levels - least;
+    trees::leaf_count_at(m.lines, least) * trees::leaf_count_at(m.lines, greatest)
 }

@@ -1,7 +1,6 @@
 // Each answer as the six words that a caller from C or Rust is given: number, set, count, length, lines, levels. Definitions: specs/.
 ghost use mathlib.Core.Path.{_≡_};
-ghost use Rattle.answers.specs.Answer.{refusal, numberOf};
-ghost use Rattle.trees.specs.Count.{countedAnswer};
+ghost use Rattle.answers.specs.Answer.{refusal, overCeiling, numberOf};
 ghost use Rattle.model.specs.Says.{readingAnswer};
 ghost use Rattle.writer.specs.Says.{writtenAnswer};
 ghost use Rattle.solver.specs.Says.{queriedAnswer, judgedAnswer};
@@ -12,13 +11,18 @@ use bench_page::Paged;
 use model::Reading;
 use solver::Judged;
 use solver::Queried;
-use trees::LeafCount;
 use writer::Written;
 
 fn put_refused(answer: &mut [u64; 6], e: Refusal)
     ensures { λ _. ⌜ now (answer .exit) ≡ sixWords (refusal (numberOf e)) ⌝ }
 {
     *answer = [answers::number(e), 0, 0, 0, 0, 0];
+}
+
+fn put_over_ceiling(answer: &mut [u64; 6], forecast: u64)
+    ensures { λ _. ⌜ now (answer .exit) ≡ sixWords (overCeiling forecast) ⌝ }
+{
+    *answer = [answers::number(Refusal::Ceiling), 0, forecast, 0, 0, 0];
 }
 
 pub fn put_judged(answer: &mut [u64; 6], j: Judged)
@@ -28,6 +32,7 @@ pub fn put_judged(answer: &mut [u64; 6], j: Judged)
         Judged::Found { set, count } => {
             *answer = [0, set, count, 0, 0, 0];
         }
+        Judged::OverCeiling(forecast) => put_over_ceiling(answer, forecast),
         Judged::Refused(e) => put_refused(answer, e),
     }
 }
@@ -65,6 +70,7 @@ pub fn put_paged(answer: &mut [u64; 6], r: Paged)
             let length = bytes as u64;
             *answer = [0, 0, 0, length, 0, 0];
         }
+        Paged::OverCeiling(forecast) => put_over_ceiling(answer, forecast),
         Paged::Refused(e) => put_refused(answer, e),
     }
 }
@@ -77,16 +83,5 @@ pub fn put_queried(answer: &mut [u64; 6], r: Queried)
             *answer = [0, set, 0, 0, 0, 0];
         }
         Queried::Refused(e) => put_refused(answer, e),
-    }
-}
-
-pub fn put_leaves(answer: &mut [u64; 6], r: LeafCount)
-    ensures { λ _. ⌜ now (answer .exit) ≡ sixWords (countedAnswer r) ⌝ }
-{
-    match r {
-        LeafCount::Leaves(count) => {
-            *answer = [0, 0, count, 0, 0, 0];
-        }
-        LeafCount::Refused(e) => put_refused(answer, e),
     }
 }

@@ -7,7 +7,7 @@ use mathlib.Core.Path.{_≡_, refl, ap}
 use Prim.Native.Nat.{ℕ, zero, suc, _≤_, _<_}
 use native.Mathlib.Omega.{arith}
 use lib.Dec.{eqb, ltb, lit<}
-use borrow.Author.Tests.{ltb-true, ltb-false, le-ltb, eqb-true, eqb-false, eq-eqb, ne-eqb, not-false}
+use borrow.Author.Tests.{ltb-true, ltb-false, le-ltb, eqb-true, eqb-false, eq-eqb, ne-eqb, not-true, not-false}
 use Rattle.answers.specs.Answer.{Answer, refusal, numberOf}
 use Rattle.answers.specs.Check.{Check, firstOf, unless, outside}
 use Rattle.answers.specs.declared.Refusal.{Refusal}
@@ -60,6 +60,22 @@ none-first (c ∷ cs) p h = at (c .applies) (none-first cs (both .1)) h
     at : (b : Bool) → (firstOf cs ≡ 0 → Passes cs) → cond b (c .number) (firstOf cs) ≡ 0 → (b ≡ false) × Passes cs
     at true later h = absurd (omega (arith, ltb-true 0 (c .number) (both .0)))
     at false later h = (refl, later h)
+
+-- none of their numbers is x, so that x is not the first that applies
+abbrev pub without : ℕ → List Check → Bool
+without x [] = true
+without x (c ∷ cs) = not (eqb (c .number) x) && without x cs
+
+pub first-other : (x : ℕ) (cs : List Check) → without x cs ≡ true → 0 < x → firstOf cs ≡ x → ⊥
+first-other x [] p some h = omega arith
+first-other x (c ∷ cs) p some h = at (c .applies) (first-other x cs (both .1) some) h
+  where
+    both : (not (eqb (c .number) x) ≡ true) × (without x cs ≡ true)
+    both = and-eq-true-iff (not (eqb (c .number) x)) (without x cs) .0 p
+
+    at : (b : Bool) → (firstOf cs ≡ x → ⊥) → cond b (c .number) (firstOf cs) ≡ x → ⊥
+    at true later h = eqb-false (c .number) x (not-true (eqb (c .number) x) (both .0)) h
+    at false later h = later h
 
 -- checks whose number is 0 are passed over
 pub after-none : (cs ds : List Check) → numbered cs ≡ true → firstOf cs ≡ 0 → firstOf (cs ++ ds) ≡ firstOf ds

@@ -35,6 +35,6 @@ pub record Answer : Type 0 where
 abbrev pub refusal : ℕ → Answer
 refusal e = record { number = e; set = 0; count = 0; length = 0; lines = 0; levels = 0 }
 
--- accepted with a count alone
-abbrev pub counted : ℕ → Answer
-counted c = record { number = 0; set = 0; count = c; length = 0; lines = 0; levels = 0 }
+-- refused because more queries are forecast than the ceiling allows (request W8): 10, with the forecast as its count
+abbrev pub overCeiling : ℕ → Answer
+overCeiling forecast = record { number = 10; set = 0; count = forecast; length = 0; lines = 0; levels = 0 }

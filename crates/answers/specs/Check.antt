@@ -5,7 +5,7 @@ use mathlib.Core.Bool.{Bool, cond, _||_}
 use mathlib.Core.List.{List, [], _∷_}
 use Prim.Native.Nat.{ℕ, zero, suc}
 use lib.Dec.{eqb, ltb}
-use Rattle.answers.specs.Answer.{Answer, refusal}
+use Rattle.answers.specs.Answer.{Answer, refusal, overCeiling}
 
 -- a number, and whether it applies
 pub record Check : Type 0 where
@@ -25,6 +25,10 @@ firstOf (c ∷ cs) = cond (c .applies) (c .number) (firstOf cs)
 abbrev pub unless : ℕ → Answer → Answer
 unless zero a = a
 unless (suc e) a = refusal (suc e)
+
+-- the same of an operation that has a forecast under a ceiling (request W8): its refusal with 10 tells the forecast
+abbrev pub unlessOver : ℕ → ℕ → Answer → Answer
+unlessOver forecast e a = cond (eqb e 10) (overCeiling forecast) (unless e a)
 
 -- a count that is 0, or over the most that there may be
 abbrev pub outside : ℕ → ℕ → Bool

@@ -8,7 +8,7 @@ pub enum Refusal {
     HeaderShort,
     // No line, or over 64 of them.
     Lines,
-    // No level, or over 8 of them; for a tree, a height over 8.
+    // No level, or over 8 of them.
     Levels,
     Offset,
     FileLength,

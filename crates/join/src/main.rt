@@ -39,7 +39,7 @@ fn main() {
             }
         }
         Written::Refused(e) => {
-            let made = text::put_refused(&mut out, 0, answers::number(e));
+            let made = text::put_refused(&mut out, 0, answers::number(e), 0);
             io::write_all(STDERR_FILENO, &out[..made]);
         }
     }

@@ -9,7 +9,7 @@ use Rattle.sets.specs.Set.{full}
 use Rattle.sets.specs.SideBySide.{sideBySide}
 use Rattle.system.specs.System.{System}
 use Rattle.model.specs.File.{linesIn, decode}
-use Rattle.model.proofs.Refusals.{none-of}
+use Rattle.model.proofs.Refusals.{none-of, none-over}
 use Rattle.routes.specs.Routes.{nestedSet}
 use Rattle.routes.proofs.Joined.{joined-set}
 use Rattle.writer.specs.Says.{writtenAnswer}
@@ -27,7 +27,7 @@ judgement m = nestedSet m 0 (full (m .lines))
 judged-nested : {file : List ℕ} {set : ℕ} → Judges file set → set ≡ judgement (decode file)
 unfolding decode
 judged-nested (plainly says ok) = says .nested (none-of _ _ _ (says .answer) refl ok)
-judged-nested (by-built-trees says ok) = says .nested (none-of _ _ _ (says .answer) refl ok)
+judged-nested (by-built-trees says ok) = says .nested (none-over _ _ _ _ (says .answer) refl ok)
 judged-nested (by-universal-trees says ok least greatest) = says .nested (none-of _ _ _ (says .answer) refl ok) least greatest
 
 pub side-by-side :

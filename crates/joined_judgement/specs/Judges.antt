@@ -17,10 +17,10 @@ use Rattle.solver.specs.declared.Judged.{Judged}
 abbrev pub fileMade : Written → List ℕ → List ℕ
 fileMade w buffer′ = take (writtenAnswer w .length) buffer′
 
--- an accepted judging, and the set that it answers: by plain rounds under any ceiling, by built-in trees, or by lent trees that are universal
+-- an accepted judging, and the set that it answers: by plain rounds or by built-in trees, under any ceiling, or by lent trees that are universal
 pub data Judges (file : List ℕ) : ℕ → Type 0 where
   plainly : {ceiling : ℕ} {r : Judged} → PlainSays file 0 (full (linesIn file)) ceiling r → judgedAnswer r .number ≡ 0 → Judges file (judgedAnswer r .set)
-  by-built-trees : {r : Judged} → BuiltSays file 0 (full (linesIn file)) r → judgedAnswer r .number ≡ 0 → Judges file (judgedAnswer r .set)
+  by-built-trees : {ceiling : ℕ} {r : Judged} → BuiltSays file 0 (full (linesIn file)) ceiling r → judgedAnswer r .number ≡ 0 → Judges file (judgedAnswer r .set)
   by-universal-trees : {u v : List ℕ} {r : Judged} → LentSays file 0 (full (linesIn file)) u v r → judgedAnswer r .number ≡ 0
       → Universal (decode file .lines) (leastLevels (decode file)) u → Universal (decode file .lines) (greatestLevels (decode file)) v
       → Judges file (judgedAnswer r .set)

@@ -1,11 +1,14 @@
 -- What an answer of checking or reading says of its number and of the counts, and the answer that a refusal is.
 -- Assumes nothing.
+use mathlib.Core.Bool.{Bool, true, false, cond}
 use mathlib.Core.List.{List, _++_}
 use mathlib.Core.Path.{_≡_, refl, sym, _∙_, ap}
 use Prim.Native.Nat.{ℕ, zero, suc, _<_}
 use native.Mathlib.Omega.{arith}
-use Rattle.answers.specs.Answer.{Answer, refusal, numberOf}
-use Rattle.answers.specs.Check.{Check, firstOf, unless}
+use lib.Dec.{eqb}
+use borrow.Author.Tests.{eqb-true, ne-eqb}
+use Rattle.answers.specs.Answer.{Answer, refusal, overCeiling, numberOf}
+use Rattle.answers.specs.Check.{Check, firstOf, unless, unlessOver}
 use Rattle.answers.specs.declared.Refusal.{Refusal}
 use Rattle.answers.proofs.Checks.{first-before, unless-refused, number-positive}
 use Rattle.model.specs.Says.{readingAnswer, sized, filled}
@@ -21,6 +24,22 @@ unless-number (suc e) a h = refl
 -- the number of an operation that accepts
 pub none-of : (e : ℕ) (a b : Answer) → a ≡ unless e b → b .number ≡ 0 → a .number ≡ 0 → e ≡ 0
 none-of e a b says clear ok = sym (unless-number e b clear) ∙ ap (λ (x : Answer). x .number) (sym says) ∙ ok
+
+-- The same of an operation with a forecast under a ceiling (request W8).
+pub over-number : (forecast e : ℕ) (a : Answer) → a .number ≡ 0 → unlessOver forecast e a .number ≡ e
+over-number forecast e a h = at (eqb e 10) refl
+  where
+    at : (t : Bool) → eqb e 10 ≡ t → cond t (overCeiling forecast) (unless e a) .number ≡ e
+    at true q = sym (eqb-true e 10 q)
+    at false q = unless-number e a h
+
+pub none-over : (forecast e : ℕ) (a b : Answer) → a ≡ unlessOver forecast e b → b .number ≡ 0 → a .number ≡ 0 → e ≡ 0
+none-over forecast e a b says clear ok = sym (over-number forecast e b clear) ∙ ap (λ (x : Answer). x .number) (sym says) ∙ ok
+
+-- a number that refuses decides the answer, whatever would be accepted
+pub over-same : (forecast : ℕ) {e : ℕ} (a b : Answer) → 0 < e → unlessOver forecast e a ≡ unlessOver forecast e b
+over-same forecast {e = zero} a b h = absurd (omega arith)
+over-same forecast {e = suc e} a b h = refl
 
 -- what an answer with the number e, and the counts n and d where e is 0, says in each case
 pub record AcceptedAs (e n d : ℕ) (m : Model) : Type 0 where
@@ -38,6 +57,10 @@ refused-by r h = record { number = sym h; positive = omega (arith, number-positi
 -- a refusal is the whole answer
 pub refused-answer : {e : ℕ} {r : Refusal} → RefusedAs e r → (a : Answer) → refusal (numberOf r) ≡ unless e a
 refused-answer h a = ap refusal (h .number) ∙ sym (unless-refused a (h .positive))
+
+-- under a ceiling too, but for 10
+pub refused-under : (forecast : ℕ) {e : ℕ} {r : Refusal} → RefusedAs e r → (e ≡ 10 → ⊥) → (a : Answer) → refusal (numberOf r) ≡ unlessOver forecast e a
+refused-under forecast {e} h other a = rw (ne-eqb e 10 other) (refused-answer h a)
 
 -- checks of which one refuses decide
 pub refused-before : (cs ds : List Check) {r : Refusal} → RefusedAs (firstOf cs) r → RefusedAs (firstOf (cs ++ ds)) r

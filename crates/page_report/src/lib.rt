@@ -1,6 +1,7 @@
 // The page program's text for an input. Definitions: specs/.
 ghost use Rattle.text.specs.Text.{Puts};
 ghost use Rattle.page_report.specs.Report.{madeText};
+use answers::Refusal;
 use bench_page::Paged;
 
 // The text of any input fits in so many bytes.
@@ -17,6 +18,9 @@ pub fn report(file: &[u8], out: &mut [u8]) -> usize
     let made = bench_page::make_page(file, out);
     match made {
         Paged::Length(bytes) => bytes,
-        Paged::Refused(e) => text::put_refused(out, 0, answers::number(e)),
+        Paged::OverCeiling(forecast) => {
+            text::put_refused(out, 0, answers::number(Refusal::Ceiling), forecast)
+        }
+        Paged::Refused(e) => text::put_refused(out, 0, answers::number(e), 0),
     }
 }

@@ -13,6 +13,7 @@ use Rattle.checker.specs.Checks.{fileNumber}
 use Rattle.model.specs.declared.layout.Model.{Model}
 use Rattle.model.proofs.Refusals.{RefusedAs}
 use Rattle.checker.proofs.Accepted.{Checked, all-lines}
+use Rattle.solver.specs.Checks.{programCeiling}
 use Rattle.solver.specs.Says.{judgedAnswer, PlainSays, BuiltSays}
 use Rattle.solver.specs.declared.Judged.{Judged}
 use Rattle.text.specs.Text.{refusedLine, textOrRefused}
@@ -21,17 +22,17 @@ use Rattle.report.specs.Report.{plainWord, treeWord, answerLine, shareLi
 
 module _ (file : List ℕ) where
   -- a refused file's text is its refusal's line
-  pub refused-text : {e : Refusal} → RefusedAs (fileNumber file) e → refusedLine (numberOf e) ≡ reportText file
+  pub refused-text : {e : Refusal} → RefusedAs (fileNumber file) e → refusedLine (numberOf e) 0 ≡ reportText file
   unfolding reportText
-  refused-text h = ap refusedLine (h .number) ∙ sym (refused-line (threeLines file) (h .positive))
+  refused-text h = ap (λ (e : ℕ). refusedLine e 0) (h .number) ∙ sym (refused-line 0 (threeLines file) (h .positive))
 
   -- the three lines, from what the file's check, its mask of all lines and both judgings say
-  pub accepted-text : {m : Model} {all : ℕ} {p t : Judged} → Checked file m → all ≡ full (min (m .lines) 64) → PlainSays file 0 all 1000000 p → BuiltSays file 0 all t
-      → plainWord ++ (answerLine (judgedAnswer p) ++ (treeWord ++ (answerLine (judgedAnswer t) ++ shareLine (systemIn file m) (judgedAnswer t .set)))) ≡ reportText file
+  pub accepted-text : {m : Model} {all : ℕ} {p t : Judged} → Checked file m → all ≡ full (min (m .lines) 64) → PlainSays file 0 all programCeiling p → BuiltSays file 0 all programCeiling t
+      → plainWord ++ (answerLine (judgedAnswer p) ++ (treeWord ++ (answerLine (judgedAnswer t) ++ shareLine (systemIn file m) (judgedAnswer t)))) ≡ reportText file
   unfolding reportText decode
   accepted-text {m} {all} {p} {t} known mask plain tree =
       let lines = all-lines file known mask in
-      let last : Answer → List ℕ = λ x. treeWord ++ (answerLine x ++ shareLine (decode file) (x .set)) in
-      ap (λ (s : System). plainWord ++ (answerLine (judgedAnswer p) ++ (treeWord ++ (answerLine (judgedAnswer t) ++ shareLine s (judgedAnswer t .set))))) (known .system)
+      let last : Answer → List ℕ = λ x. treeWord ++ (answerLine x ++ shareLine (decode file) x) in
+      ap (λ (s : System). plainWord ++ (answerLine (judgedAnswer p) ++ (treeWord ++ (answerLine (judgedAnswer t) ++ shareLine s (judgedAnswer t))))) (known .system)
       ∙ ap₂ (λ (x y : Answer). plainWord ++ (answerLine x ++ last y)) ((rw lines at plain) .answer) ((rw lines at tree) .answer)
-      ∙ ap (λ (e : ℕ). textOrRefused e (threeLines file)) (sym (known .counts .number))
+      ∙ ap (λ (e : ℕ). textOrRefused e 0 (threeLines file)) (sym (known .counts .number))

@@ -36,6 +36,9 @@ leaf-few (suc h) n q =
 
 -- over built-in trees for up to 64 lines, at most 8 levels high together
 
+pub product-few : {x y : ℕ} (h k : ℕ) → x ≤ 64 ^ h → y ≤ 64 ^ k → h + k ≤ 8 → x * y ≤ 64 ^ 8
+product-few h k few few′ low = le-trans (mul-le-mul few few′) (rw (← (pow-add 64 h k)) (pow-le-pow-right {n = 64} (omega arith) {j = 8} low))
+
 count-tree : (n h : ℕ) → LineCount n → IsTree h (built n h)
 count-tree zero h z = absurd (omega arith)
 count-tree (suc n) h z = built-tree n h
@@ -50,8 +53,7 @@ built-few s k p q h y z =
     let i = leastOf s k in
     let j = greatestOf s k in
     rw (queries-product (sign s) k (built p i) (built q j) (count-tree p i y) (count-tree q j z))
-    (le-trans (mul-le-mul (count-few p i y) (count-few q j z))
-    (rw (← (pow-add 64 i j)) (pow-le-pow-right {n = 64} (omega arith) {j = 8} (omega (arith, levels-sum (sign s) k)))))
+    (product-few i j (count-few p i y) (count-few q j z) (omega (arith, levels-sum (sign s) k)))
 
 -- over lent trees
 pub lent-few : (s : System) (k : ℕ) (u v : List ℕ) → Lent (leastOf s k) u → Lent (greatestOf s k) v → queriesFrom s k u v ≤ 1024 * 1024

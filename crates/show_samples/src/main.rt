@@ -1,5 +1,5 @@
 // Runs those of document 01's samples that are not proved; the others are the table of the crate `samples`.
-// Its stored output is what document 01 says of them, what requests W3 and W4 say of the shares and the votes, and P's bench page.
+// Its stored output is what document 01 says of them, what requests W3, W4 and W8 say of the shares, the votes and the forecast, and P's bench page.
 use answers::Refusal;
 use libc::STDOUT_FILENO;
 use model::Model;
@@ -80,10 +80,14 @@ fn show_refusal(name: &[u8], e: Refusal) {
     show_number(b"refused ", answers::number(e));
 }
 
-// A set and its count, or a refusal.
+// A set and its count, or a refusal, with its count if it has one.
 fn show_judged(name: &[u8], j: Judged) {
     match j {
         Judged::Found { set, count } => show_pair(name, set, count),
+        Judged::OverCeiling(forecast) => {
+            io::write_all(STDOUT_FILENO, name);
+            show_pair(b"refused ", answers::number(Refusal::Ceiling), forecast);
+        }
         Judged::Refused(e) => show_refusal(name, e),
     }
 }
@@ -160,7 +164,7 @@ fn show_votes(name: &[u8], t: u8) {
         &mut file,
     );
     match written {
-        Written::Length(_) => show_judged(name, solver::solve_built(&file, 0, 15)),
+        Written::Length(_) => show_judged(name, solver::solve_built(&file, 0, 15, 16)),
         Written::Refused(e) => show_refusal(name, e),
     }
 }
@@ -181,7 +185,15 @@ fn main() {
     );
     show_judged(
         b"P, A = 1, B = 2, built-in trees: ",
-        solver::solve_built(&P, 1, 2),
+        solver::solve_built(&P, 1, 2, 0),
+    );
+    show_judged(
+        b"P, built-in trees, ceiling 4: ",
+        solver::solve_built(&P, 0, 3, 4),
+    );
+    show_judged(
+        b"P, built-in trees, ceiling 3: ",
+        solver::solve_built(&P, 0, 3, 3),
     );
     show_sizes();
     show_reading(b"51 bytes of P: ", checker::check(&P[..51]));

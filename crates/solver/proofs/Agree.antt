@@ -8,22 +8,23 @@ use native.Mathlib.Omega.{arith}
 use borrow.Author.Tests.{lt-ltb}
 use Rattle.fixpoint.proofs.Plain.{plain-positive}
 use Rattle.model.specs.File.{decode}
-use Rattle.model.proofs.Refusals.{none-of}
+use Rattle.model.proofs.Refusals.{none-of, none-over}
 use Rattle.routes.specs.Routes.{plainRun}
-use Rattle.solver.specs.Checks.{builtNumber, plainNumber}
+use Rattle.admission.specs.Checks.{boundNumber}
+use Rattle.solver.specs.Checks.{plainNumber}
 use Rattle.solver.specs.Says.{judgedAnswer, PlainSays, BuiltSays}
 use Rattle.solver.specs.declared.Judged.{Judged}
 use Rattle.admission.proofs.Admitted.{after-bounds}
 use Rattle.solver.proofs.Answers.{ceilingChecks}
 
 pub operations-agree :
-    (file : List ℕ) (a b ceiling : ℕ) (p t : Judged) → PlainSays file a b ceiling p → BuiltSays file a b t
+    (file : List ℕ) (a b ceiling ceiling′ : ℕ) (p t : Judged) → PlainSays file a b ceiling p → BuiltSays file a b ceiling′ t
     → judgedAnswer p .number ≡ 0 → judgedAnswer t .number ≡ 0 → judgedAnswer p .set ≡ judgedAnswer t .set
-operations-agree file a b ceiling p t plain tree ok ok′ =
-    plain .nested (none-of _ _ _ (plain .answer) refl ok) ∙ sym (tree .nested (none-of _ _ _ (tree .answer) refl ok′))
+operations-agree file a b ceiling ceiling′ p t plain tree ok ok′ =
+    plain .nested (none-of _ _ _ (plain .answer) refl ok) ∙ sym (tree .nested (none-over _ _ _ _ (tree .answer) refl ok′))
 
 -- every run makes a query
-pub ceiling-zero : (file : List ℕ) (a b : ℕ) → builtNumber file a b ≡ 0 → plainNumber file a b 0 ≡ 10
+pub ceiling-zero : (file : List ℕ) (a b : ℕ) → boundNumber file a b ≡ 0 → plainNumber file a b 0 ≡ 10
 unfolding plainNumber
 ceiling-zero file a b h =
     after-bounds file a b (ceilingChecks file a b 0) h ∙ rw (lt-ltb 0 (plainRun (decode file) a b .queries) (plain-positive _ _ _ _ _ _ _ (omega arith) _ _))

@@ -1,20 +1,21 @@
--- From what an evaluator gives to what judging promises, for each operation: the refusals up to 9 handed on, its own refusal, and the accepted answer
+-- From what an evaluator gives to what judging promises, for each operation: the refusals up to 9 and 14 handed on, its own refusal, and the accepted answer
 -- with all that is promised of it besides.
 -- Assumes nothing.
 use mathlib.Core.Bool.{Bool, true, false, cond, true≢false, _||_}
 use mathlib.Core.List.{List, [], _∷_}
-use mathlib.Core.Path.{_≡_, refl, sym, _∙_, ap₂}
-use Prim.Native.Nat.{ℕ, _-_, _≤_}
+use mathlib.Core.Path.{_≡_, refl, sym, _∙_, ap, ap₂}
+use Prim.Native.Nat.{ℕ, _-_, _≤_, _<_}
 use native.Mathlib.Omega.{arith}
 use borrow.Author.Tests.{le-ltb, lt-ltb}
 use lib.Dec.{ltb}
+use Rattle.answers.specs.Answer.{overCeiling}
 use Rattle.answers.specs.Check.{Check, _if_}
 use Rattle.answers.specs.declared.Refusal.{Refusal}
 use Rattle.answers.specs.declared.Refusal.the-variants.{Ceiling, Tree}
 use Rattle.fixpoint.specs.Plain.{Run}
 use Rattle.model.specs.File.{decode}
 use Rattle.model.specs.declared.layout.Model.{Model}
-use Rattle.model.proofs.Refusals.{RefusedAs, refused-before, refused-answer}
+use Rattle.model.proofs.Refusals.{RefusedAs, refused-before, refused-answer, refused-under}
 use Rattle.plain_route.specs.Under.{under}
 use Rattle.routes.specs.Routes.{leastLevels, greatestLevels, plainRun}
 use Rattle.routes.specs.declared.shared.Found.{Found}
@@ -22,11 +23,11 @@ use Rattle.plain_route.specs.declared.Outcome.the-variants as outcome
 use Rattle.routes.proofs.Promises.{plain-is-nested, built-product, built-nested, lent-product, lent-nested}
 use Rattle.plain_route.proofs.Rounds.{Fits, settled-fits, spent-exceeds}
 use Rattle.view.specs.View.{BuiltIs, LentIs}
-use Rattle.admission.specs.Checks.{badTree, boundChecks, boundNumber}
-use Rattle.solver.specs.Checks.{builtNumber, plainNumber, treeChecks, lentNumber}
+use Rattle.admission.specs.Checks.{badTree, boundChecks, boundNumber, forecast}
+use Rattle.solver.specs.Checks.{forecastChecks, builtNumber, plainNumber, treeChecks, lentNumber}
 use Rattle.solver.specs.Says.{judged, PlainSays, BuiltSays, LentSays}
 use Rattle.solver.specs.declared.Judged.the-variants as judgement
-use Rattle.admission.proofs.Admitted.{Admitted, after-bounds}
+use Rattle.admission.proofs.Admitted.{Admitted, never-ten, after-bounds}
 use Rattle.admission.proofs.LentTrees.{good-tree}
 
 -- a number that refuses is not 0
@@ -34,12 +35,12 @@ never : {n : ℕ} {e : Refusal} → RefusedAs n e → n ≡ 0 → ⊥
 never h z = omega (arith, h .positive)
 
 module _ (file : List ℕ) (a b : ℕ) where
-  -- judging plainly
   module _ (ceiling : ℕ) where
+    -- judging plainly
     abbrev pub ceilingChecks : List Check
     ceilingChecks = 10 if ltb ceiling (plainRun (decode file) a b .queries) ∷ []
 
-    pub plain-refused : {e : Refusal} → RefusedAs (builtNumber file a b) e → PlainSays file a b ceiling (judgement.Refused e)
+    pub plain-refused : {e : Refusal} → RefusedAs (boundNumber file a b) e → PlainSays file a b ceiling (judgement.Refused e)
     unfolding boundNumber plainNumber
     plain-refused h =
         let still = refused-before (boundChecks file a b) ceilingChecks h in
@@ -65,21 +66,34 @@ module _ (file : List ℕ) (a b : ℕ) where
           nested = λ z. sym (f .value) ∙ plain-is-nested (decode file) a b (ad .range);
         }
 
-  -- judging by built-in trees
-  pub built-refused : {e : Refusal} → RefusedAs (builtNumber file a b) e → BuiltSays file a b (judgement.Refused e)
-  built-refused h = record { answer = refused-answer h _; product = λ z. absurd (never h z); nested = λ z. absurd (never h z) }
+    -- judging by built-in trees
+    pub built-refused : {e : Refusal} → RefusedAs (boundNumber file a b) e → BuiltSays file a b ceiling (judgement.Refused e)
+    unfolding boundNumber builtNumber
+    built-refused h =
+        let still = refused-before (boundChecks file a b) (forecastChecks file ceiling) h in
+        let other : builtNumber file a b ceiling ≡ 10 → ⊥ = λ ten. never-ten file a b (sym (h .number) ∙ still .number ∙ ten) in
+        record { answer = refused-under (forecast (decode file)) still other _; product = λ z. absurd (never still z); nested = λ z. absurd (never still z) }
 
-  pub built-found : {m : Model} (r : Found) → Admitted file a b m → BuiltIs (decode file) a b r → BuiltSays file a b (judgement.Found (r .set) (r .count))
-  built-found r ad g =
-      record {
-        answer = rw (ad .number) (ap₂ judged (g .value) (g .queries));
-        product = λ z. g .queries ∙ built-product (decode file) (decode file .lines) (decode file .lines) (ad .some-line) (ad .some-line);
-        nested = λ z. g .value ∙ built-nested (decode file) a b (ad .range) (ad .some-line);
-      }
+    pub built-over : {m : Model} {queries : ℕ} → Admitted file a b m → queries ≡ forecast (decode file) → ceiling < queries → BuiltSays file a b ceiling (judgement.OverCeiling queries)
+    unfolding builtNumber
+    built-over {queries = queries} ad e over =
+        let ten : builtNumber file a b ceiling ≡ 10 = after-bounds file a b (forecastChecks file ceiling) (ad .number) ∙ rw (lt-ltb ceiling (forecast (decode file)) (omega arith)) in
+        record { answer = rw ten (ap overCeiling e); product = λ z. absurd (omega arith); nested = λ z. absurd (omega arith) }
+
+    pub built-found : {m : Model} {queries : ℕ} (r : Found) → Admitted file a b m → queries ≡ forecast (decode file) → queries ≤ ceiling → BuiltIs (decode file) a b r
+        → BuiltSays file a b ceiling (judgement.Found (r .set) (r .count))
+    unfolding builtNumber
+    built-found r ad e few g =
+        let zero-number : builtNumber file a b ceiling ≡ 0 = after-bounds file a b (forecastChecks file ceiling) (ad .number) ∙ rw (le-ltb ceiling (forecast (decode file)) (omega arith)) in
+        record {
+          answer = rw zero-number (ap₂ judged (g .value) (g .queries));
+          product = λ z. g .queries ∙ built-product (decode file) (decode file .lines) (decode file .lines) (ad .some-line) (ad .some-line);
+          nested = λ z. g .value ∙ built-nested (decode file) a b (ad .range) (ad .some-line);
+        }
 
   -- judging by lent trees
   module _ (u v : List ℕ) where
-    pub lent-refused : {e : Refusal} → RefusedAs (builtNumber file a b) e → LentSays file a b u v (judgement.Refused e)
+    pub lent-refused : {e : Refusal} → RefusedAs (boundNumber file a b) e → LentSays file a b u v (judgement.Refused e)
     unfolding boundNumber lentNumber
     lent-refused h =
         let still = refused-before (boundChecks file a b) (treeChecks file u v) h in

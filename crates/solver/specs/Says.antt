@@ -3,8 +3,8 @@
 use mathlib.Core.List.{List}
 use mathlib.Core.Path.{_≡_}
 use Prim.Native.Nat.{ℕ, _*_}
-use Rattle.answers.specs.Answer.{Answer, refusal, numberOf}
-use Rattle.answers.specs.Check.{unless}
+use Rattle.answers.specs.Answer.{Answer, refusal, overCeiling, numberOf}
+use Rattle.answers.specs.Check.{unless, unlessOver}
 use Rattle.trees.specs.Tree.{leaves}
 use Rattle.trees.specs.Fit.{Universal}
 use Rattle.trees.specs.Built.{leafCount}
@@ -13,9 +13,10 @@ use Rattle.system.specs.Query.{query}
 use Rattle.model.specs.declared.layout.Reading.{Reading}
 use Rattle.model.specs.declared.layout.Reading.the-variants as reading
 use Rattle.routes.specs.Routes.{leastLevels, greatestLevels, builtLeast, builtGreatest, nestedSet, plainRun, restrictedSet, restrictedCount}
+use Rattle.admission.specs.Checks.{forecast}
 use Rattle.solver.specs.Checks.{queryNumber, builtNumber, plainNumber, lentNumber}
 use Rattle.solver.specs.declared.Judged.{Judged}
-use Rattle.solver.specs.declared.Judged.the-variants.{Found, Refused}
+use Rattle.solver.specs.declared.Judged.the-variants.{Found, OverCeiling, Refused}
 use Rattle.solver.specs.declared.Queried.{Queried}
 use Rattle.solver.specs.declared.Queried.the-variants as queried
 
@@ -34,6 +35,7 @@ queriedAnswer (queried.Refused e) = refusal (numberOf e)
 
 abbrev pub judgedAnswer : Judged → Answer
 judgedAnswer (Found set count) = judged set count
+judgedAnswer (OverCeiling forecast) = overCeiling forecast
 judgedAnswer (Refused e) = refusal (numberOf e)
 
 -- one query of a file at the arguments xs, level 1 first
@@ -54,19 +56,19 @@ pub record PlainSays (file : List ℕ) (a b ceiling : ℕ) (r : Judged) : Type 0
   -- an accepted set is the nested fixpoint
   pub nested : plainNumber file a b ceiling ≡ 0 → judgedAnswer r .set ≡ nestedSet (decode file) a b
 
--- judging by built-in trees, for the file's own number of lines
-abbrev pub builtAnswer : List ℕ → ℕ → ℕ → Answer
-builtAnswer file a b =
+-- judging by built-in trees, for the file's own number of lines; nothing is judged where the forecast is over the ceiling, and the answer tells the forecast
+abbrev pub builtAnswer : List ℕ → ℕ → ℕ → ℕ → Answer
+builtAnswer file a b ceiling =
     let s = decode file in
     let u = builtLeast s (s .lines) in
     let v = builtGreatest s (s .lines) in
-    unless (builtNumber file a b) (judged (restrictedSet s a b u v) (restrictedCount s u v))
+    unlessOver (forecast s) (builtNumber file a b ceiling) (judged (restrictedSet s a b u v) (restrictedCount s u v))
 
-pub record BuiltSays (file : List ℕ) (a b : ℕ) (r : Judged) : Type 0 where
-  pub answer : judgedAnswer r ≡ builtAnswer file a b
+pub record BuiltSays (file : List ℕ) (a b ceiling : ℕ) (r : Judged) : Type 0 where
+  pub answer : judgedAnswer r ≡ builtAnswer file a b ceiling
   -- an accepted count is the product of the two trees' leaves, and an accepted set is the nested fixpoint
-  pub product : builtNumber file a b ≡ 0 → judgedAnswer r .count ≡ leafCount (decode file .lines) (leastLevels (decode file)) * leafCount (decode file .lines) (greatestLevels (decode file))
-  pub nested : builtNumber file a b ≡ 0 → judgedAnswer r .set ≡ nestedSet (decode file) a b
+  pub product : builtNumber file a b ceiling ≡ 0 → judgedAnswer r .count ≡ leafCount (decode file .lines) (leastLevels (decode file)) * leafCount (decode file .lines) (greatestLevels (decode file))
+  pub nested : builtNumber file a b ceiling ≡ 0 → judgedAnswer r .set ≡ nestedSet (decode file) a b
 
 -- judging by lent trees
 abbrev pub lentAnswer : List ℕ → ℕ → ℕ → List ℕ → List ℕ → Answer

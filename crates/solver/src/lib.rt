@@ -3,10 +3,14 @@
 ghost use mathlib.Core.Path.{_≡_};
 ghost use Rattle.solver.specs.Says.{queriedAnswer, queryAnswer, handedOn, PlainSays, BuiltSays, LentSays};
 use admission::admit;
+use admission::forecast;
 use admission::tree_is_bad;
 use answers::Refusal;
 use model::Reading;
 use plain_route::Outcome;
+
+// The ceiling that the judging program and the bench page pass.
+pub const PROGRAM_CEILING: u64 = 1_000_000;
 
 // What one query answers.
 pub enum Queried {
@@ -35,6 +39,8 @@ pub fn query(file: &[u8], xs: &[u64]) -> Queried
 // What judging answers.
 pub enum Judged {
     Found { set: u64, count: u64 },
+    // Refused with 10 and this count, the forecast: nothing was judged (request W8).
+    OverCeiling(u64),
     Refused(Refusal),
 }
 
@@ -66,14 +72,18 @@ pub fn solve_plain(file: &[u8], a: u64, b: u64, ceiling: u64) -> Judged
     }
 }
 
-// Judges by the built-in trees for the file's lines.
-pub fn solve_built(file: &[u8], a: u64, b: u64) -> Judged
-    ensures { λ r. ⌜ BuiltSays (now (file .entry)) a b r ⌝ }
+// Judges by the built-in trees for the file's lines, if the forecast is not over the ceiling.
+pub fn solve_built(file: &[u8], a: u64, b: u64, ceiling: u64) -> Judged
+    ensures { λ r. ⌜ BuiltSays (now (file .entry)) a b ceiling r ⌝ }
 {
     let counts = admit(file, a, b);
     let Reading::Accepted(m) = counts else {
         return hand_on(counts);
     };
+    let queries = forecast(file, m);
+    if ceiling < queries {
+        return Judged::OverCeiling(queries);
+    }
     let found = view::built_of(file, m.lines, m.levels, a, b);
     Judged::Found {
         set: found.set,

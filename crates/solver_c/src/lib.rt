@@ -1,7 +1,6 @@
 // The operations for C and Rust to call: each fills six words with its answer (include/solver.h).
 ghost use mathlib.Core.Path.{_≡_};
 ghost use lib.ListN.{length};
-ghost use Rattle.trees.specs.Count.{leafCountAnswer};
 ghost use Rattle.system.specs.System.{systemOf};
 ghost use Rattle.reader.specs.Says.{readAnswer, ReadLeaves};
 ghost use Rattle.writer.specs.Says.{writeAnswer, WriteLeaves};
@@ -10,7 +9,6 @@ ghost use Rattle.solver.specs.Says.{queryAnswer, plainAnswer, builtAnswer, lent
 ghost use Rattle.bench_page.specs.Says.{pageAnswer, PageLeaves};
 ghost use Rattle.answer_c.specs.Words.{sixWords};
 use answer_c::put_judged;
-use answer_c::put_leaves;
 use answer_c::put_paged;
 use answer_c::put_queried;
 use answer_c::put_reading;
@@ -68,10 +66,10 @@ pub extern "C" fn solver_plain(file: &[u8], a: u64, b: u64, ceiling: u64, answer
 }
 
 #[no_mangle]
-pub extern "C" fn solver_built(file: &[u8], a: u64, b: u64, answer: &mut [u64; 6])
-    ensures { λ _. ⌜ now (answer .exit) ≡ sixWords (builtAnswer (now (file .entry)) a b) ⌝ }
+pub extern "C" fn solver_built(file: &[u8], a: u64, b: u64, ceiling: u64, answer: &mut [u64; 6])
+    ensures { λ _. ⌜ now (answer .exit) ≡ sixWords (builtAnswer (now (file .entry)) a b ceiling) ⌝ }
 {
-    put_judged(answer, solver::solve_built(file, a, b));
+    put_judged(answer, solver::solve_built(file, a, b, ceiling));
 }
 
 #[no_mangle]
@@ -102,11 +100,4 @@ pub extern "C" fn solver_join(first: &[u8], second: &[u8], buffer: &mut [u8], an
     ensures { λ _. ⌜ JoinLeaves (now (first .entry)) (now (second .entry)) (now (buffer .entry)) (now (buffer .exit)) ⌝ }
 {
     put_written(answer, joiner::join(first, second, buffer));
-}
-
-#[no_mangle]
-pub extern "C" fn solver_leaf_count(n: usize, h: usize, answer: &mut [u64; 6])
-    ensures { λ _. ⌜ now (answer .exit) ≡ sixWords (leafCountAnswer n h) ⌝ }
-{
-    put_leaves(answer, trees::leaf_count(n, h));
 }

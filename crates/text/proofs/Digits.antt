@@ -12,7 +12,7 @@ use borrow.Author.Tests.{lt-ltb}
 use lib.ListN.{length, set, take, drop, length-append, length-set, take-append-drop}
 use lib.Seq.{take-length, drop-drop, paste, length-paste, take-paste, drop-paste}
 use Rattle.lists.proofs.Front.{back-store}
-use Rattle.text.specs.Text.{digit, digits, places, decimal, hex, numberLine, refusedWord, refusedLine, textOrRefused, pasted, Puts}
+use Rattle.text.specs.Text.{digit, digits, places, decimal, hex, numberLine, refusedWord, behindNumber, refusedLine, textOrRefused, pasted, Puts}
 
 pub digits-length : (base k x : ℕ) → length (digits base k x) ≡ k
 unfolding digits
@@ -102,12 +102,17 @@ pub number-line-few : (word : List ℕ) (x : ℕ) → length (numberLine word x)
 number-line-few word x = omega (arith, length-append word (decimal x ++ (10 ∷ [])), length-append (decimal x) (10 ∷ []), decimal-few x)
 
 -- a number that refuses has its line
-pub refused-line : {e : ℕ} (text : List ℕ) → 0 < e → textOrRefused e text ≡ refusedLine e
-refused-line {e = zero} text h = absurd (omega arith)
-refused-line {e = suc e} text h = refl
+pub refused-line : {e : ℕ} (count : ℕ) (text : List ℕ) → 0 < e → textOrRefused e count text ≡ refusedLine e count
+refused-line {e = zero} count text h = absurd (omega arith)
+refused-line {e = suc e} count text h = refl
 
-pub refused-few : (e : ℕ) → length (refusedLine e) ≤ 29
-refused-few e = number-line-few refusedWord e
+pub refused-few : (e count : ℕ) → length (refusedLine e count) ≤ 50
+refused-few e count =
+    omega (arith, length-append refusedWord (decimal e ++ behindNumber count), length-append (decimal e) (behindNumber count), decimal-few e, behind-few count)
+  where
+    behind-few : (count : ℕ) → length (behindNumber count) ≤ 22
+    behind-few zero = omega arith
+    behind-few (suc count) = number-line-few (32 ∷ []) (suc count)
 
 pub hex-long : (x : ℕ) → length (hex x) ≡ 16
 hex-long x = digits-length 16 16 x

@@ -33,17 +33,21 @@ decimal x = digits 10 (places 19 x) x
 abbrev pub numberLine : List ℕ → ℕ → List ℕ
 numberLine word x = word ++ (decimal x ++ (10 ∷ []))
 
--- what a program writes of an input that is turned down: `refused`, a blank and the number
+-- what a program writes of what is turned down: `refused`, a blank and the number; behind them, where the refusal has a count (request W8), a blank and the count
 abbrev pub refusedWord : List ℕ
 refusedWord = 114 ∷ 101 ∷ 102 ∷ 117 ∷ 115 ∷ 101 ∷ 100 ∷ 32 ∷ []
 
-abbrev pub refusedLine : ℕ → List ℕ
-refusedLine e = numberLine refusedWord e
+abbrev pub behindNumber : ℕ → List ℕ
+behindNumber zero = 10 ∷ []
+behindNumber (suc count) = numberLine (32 ∷ []) (suc count)
 
--- a text, or, where a number refuses, the line of that refusal
-abbrev pub textOrRefused : ℕ → List ℕ → List ℕ
-textOrRefused zero text = text
-textOrRefused (suc e) text = refusedLine (suc e)
+abbrev pub refusedLine : ℕ → ℕ → List ℕ
+refusedLine e count = refusedWord ++ (decimal e ++ behindNumber count)
+
+-- a text, or, where a number refuses, the line of that refusal with its count
+abbrev pub textOrRefused : ℕ → ℕ → List ℕ → List ℕ
+textOrRefused zero count text = text
+textOrRefused (suc e) count text = refusedLine (suc e) count
 
 -- a list with a text put into it at a place
 abbrev pub pasted : ℕ → List ℕ → List ℕ → List ℕ

@@ -75,10 +75,15 @@ pub fn put_number_line(out: &mut [u8], at: usize, word: &[u8], x: u64) -> usize
     put(out, end, b"\n")
 }
 
-// The line of a refusal.
-pub fn put_refused(out: &mut [u8], at: usize, number: u64) -> usize
-    requires { ⌜ at + 29 ≤ length (now out) ⌝ }
-    ensures { λ r. ⌜ Puts at (refusedLine number) (now (out .entry)) (now (out .exit)) r ⌝ }
+// The line of a refusal, with its count where it has one.
+pub fn put_refused(out: &mut [u8], at: usize, number: u64, count: u64) -> usize
+    requires { ⌜ at + 50 ≤ length (now out) ⌝ }
+    ensures { λ r. ⌜ Puts at (refusedLine number count) (now (out .entry)) (now (out .exit)) r ⌝ }
 {
-    put_number_line(out, at, b"refused ", number)
+    let word = put(out, at, b"refused ");
+    let end = put_decimal(out, word, number);
+    if count == 0 {
+        return put(out, end, b"\n");
+    }
+    put_number_line(out, end, b" ", count)
 }

@@ -1,4 +1,3 @@
 pub mod Tree
 pub mod Fit
 pub mod Built
-pub mod Count

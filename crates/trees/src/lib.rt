@@ -1,20 +1,13 @@
-// The leaf counts of the built-in trees, and the operation that tells one.
+// The leaf counts of the built-in trees. Definitions: specs/.
 ghost use mathlib.Core.Path.{_≡_};
 ghost use Prim.Native.Nat.{_≤_};
 ghost use Rattle.trees.specs.Built.{leafCount};
-ghost use Rattle.trees.specs.Count.{countedAnswer, leafCountAnswer};
-use answers::Refusal;
 use table::LEAF_COUNTS;
 
 mod table;
 
-pub enum LeafCount {
-    Leaves(u64),
-    Refused(Refusal),
-}
-
 // L(n, h): from height 2 on it is looked up; of height 1 it is n, and of height 0 it is 1, or 0 where n is 0.
-fn leaf_count_at(n: usize, h: usize) -> u64
+pub fn leaf_count_at(n: usize, h: usize) -> u64
     requires { ⌜ (n ≤ 64) × (h ≤ 8) ⌝ }
     ensures { λ r. ⌜ r ≡ leafCount n h ⌝ }
 {
@@ -28,20 +21,4 @@ fn leaf_count_at(n: usize, h: usize) -> u64
         return 0;
     }
     1
-}
-
-// The number of leaves of the built-in tree of height h for n lines.
-pub fn leaf_count(n: usize, h: usize) -> LeafCount
-    ensures { λ r. ⌜ countedAnswer r ≡ leafCountAnswer n h ⌝ }
-{
-    if n == 0 {
-        return LeafCount::Refused(Refusal::Lines);
-    }
-    if 64 < n {
-        return LeafCount::Refused(Refusal::Lines);
-    }
-    if 8 < h {
-        return LeafCount::Refused(Refusal::Levels);
-    }
-    LeafCount::Leaves(leaf_count_at(n, h))
 }

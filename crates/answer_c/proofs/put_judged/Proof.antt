@@ -14,6 +14,12 @@ enum-known-j c = search needs
 enum-known-j-2 : tie.Need-enum-known-j-2
 enum-known-j-2 c = search needs
 
+put-over-ceiling-requires : tie.Need-put-over-ceiling-requires
+put-over-ceiling-requires c κs = search needs
+
+enum-known-j-3 : tie.Need-enum-known-j-3
+enum-known-j-3 c = search needs
+
 put-refused-requires : tie.Need-put-refused-requires
 put-refused-requires c κs = search needs
 
@@ -21,8 +27,20 @@ returns : tie.Need-returns
 returns c = sym (ap (λ (r : Judged). sixWords (judgedAnswer r)) (c .before .before .j .given .1))
 
 returns-2 : tie.Need-returns-2
-returns-2 c = c .put-refused .ensures ∙ sym (ap (λ (r : Judged). sixWords (judgedAnswer r)) (c .before .before .before .j2 .given .1))
+returns-2 c = c .put-over-ceiling .ensures ∙ sym (ap (λ (r : Judged). sixWords (judgedAnswer r)) (c .before .before .before .j2 .given .1))
+
+returns-3 : tie.Need-returns-3
+returns-3 c = c .put-refused .ensures ∙ sym (ap (λ (r : Judged). sixWords (judgedAnswer r)) (c .before .before .before .j3 .given .1))
 
 pub put-judged-spec : {M : Type 1} → statement M
 put-judged-spec =
-    tie.close (tie.spec enum-known-j enum-known-j-2 put-refused-requires returns returns-2)
+    tie.close
+    (tie.spec
+    enum-known-j
+    enum-known-j-2
+    put-over-ceiling-requires
+    enum-known-j-3
+    put-refused-requires
+    returns
+    returns-2
+    returns-3)

@@ -3,6 +3,8 @@
 use mathlib.Core.Path.{_≡_, refl, subst}
 use borrow.Author.Tests.{lt-ltb, le-ltb}
 use denote.Ref.{now}
+use lib.Dec.{lit<}
+use Rattle.answers.proofs.Checks.{number-positive}
 use Rattle.bench_page.specs.Says.{PageSays}
 use Rattle.bench_page.specs.declared.Paged.{Paged}
 use Rattle.page_report.proofs.Outcome.{page-put, refusal-put}
@@ -36,6 +38,15 @@ number-requires c κs = search needs
 put-refused-requires : tie.Need-put-refused-requires
 put-refused-requires c κs = search needs
 
+enum-known-made-3 : tie.Need-enum-known-made-3
+enum-known-made-3 c = search needs
+
+number-requires-2 : tie.Need-number-requires-2
+number-requires-2 c κs = search needs
+
+put-refused-requires-2 : tie.Need-put-refused-requires-2
+put-refused-requires-2 c κs = search needs
+
 same-length : tie.Need-same-length
 same-length c = search needs
 
@@ -54,7 +65,18 @@ returns-3 c =
     let told = number .before .before .before in
     let made = told .before .before .before .before in
     let long = made .before .before .if1 .left in
-    rw (le-ltb _ 2665 long) (refusal-put _ _ long (answered made (told .made2 .given .1)) (rw (number .number .ensures) at (c .before .before .put-refused .ensures)))
+    rw (le-ltb _ 2665 long) (refusal-put _ _ long (answered made (told .made2 .given .1)) (lit< tt) (rw (number .number .ensures) at (c .before .before .put-refused .ensures)))
+
+same-length-3 : tie.Need-same-length-3
+same-length-3 c = search needs
+
+returns-4 : tie.Need-returns-4
+returns-4 c =
+    let number = c .before .before .before in
+    let told = number .before .before .before in
+    let made = told .before .before .before .before in
+    let long = made .before .before .if1 .left in
+    rw (le-ltb _ 2665 long) (refusal-put _ _ long (answered made (told .made3 .given .1)) (number-positive (told .made3 .given .0 .0)) (rw (number .number2 .ensures) at (c .before .before .put-refused2 .ensures)))
 
 pub report-spec : {M : Type 1} → statement M
 report-spec =
@@ -66,7 +88,12 @@ report-spec =
     enum-known-made-2
     number-requires
     put-refused-requires
+    enum-known-made-3
+    number-requires-2
+    put-refused-requires-2
     same-length
     returns-2
     same-length-2
-    returns-3)
+    returns-3
+    same-length-3
+    returns-4)

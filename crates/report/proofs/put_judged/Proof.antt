@@ -21,6 +21,15 @@ number-requires c κs = search needs
 put-refused-requires : tie.Need-put-refused-requires
 put-refused-requires c κs = search needs
 
+enum-known-j-3 : tie.Need-enum-known-j-3
+enum-known-j-3 c = search needs
+
+number-requires-2 : tie.Need-number-requires-2
+number-requires-2 c κs = search needs
+
+put-refused-requires-2 : tie.Need-put-refused-requires-2
+put-refused-requires-2 c κs = search needs
+
 same-length : tie.Need-same-length
 same-length c = search needs
 
@@ -33,7 +42,15 @@ same-length-2 c = search needs
 returns-2 : tie.Need-returns-2
 returns-2 c =
     let number = c .before .before .before in
-    rw (number .before .before .before .j2 .given .1, refused-line _ (number-positive (number .before .before .before .j2 .given .0 .0))) (rw (number .number .ensures) at (c .before .before .put-refused .ensures))
+    rw (number .before .before .before .j2 .given .1) (rw (number .number .ensures) at (c .before .before .put-refused .ensures))
+
+same-length-3 : tie.Need-same-length-3
+same-length-3 c = search needs
+
+returns-3 : tie.Need-returns-3
+returns-3 c =
+    let number = c .before .before .before in
+    rw (number .before .before .before .j3 .given .1, refused-line 0 _ (number-positive (number .before .before .before .j3 .given .0 .0))) (rw (number .number2 .ensures) at (c .before .before .put-refused2 .ensures))
 
 pub put-judged-spec : {M : Type 1} → statement M
 put-judged-spec =
@@ -44,7 +61,12 @@ put-judged-spec =
     enum-known-j-2
     number-requires
     put-refused-requires
+    enum-known-j-3
+    number-requires-2
+    put-refused-requires-2
     same-length
     returns
     same-length-2
-    returns-2)
+    returns-2
+    same-length-3
+    returns-3)

@@ -1,5 +1,5 @@
 -- `report::report` meets its contract: a short buffer is left as it was, a refused file has the refusal's line, and of an accepted file
--- the pieces of the three lines, put one behind the other, are its text. Every line is so short that 128 bytes are enough.
+-- the pieces of the three lines, put one behind the other, are its text. Every line is so short that 144 bytes are enough.
 -- Assumes nothing.
 use mathlib.Core.Path.{refl}
 use Prim.Native.Nat.{_+_, _≤_}
@@ -25,14 +25,14 @@ known : (c : tie.After-known-told) → Checked (now (c .before .before .before .
 known c = checked _ (c .before .before .before .check .ensures) (c .before .counts .given .1)
 
 -- the room behind the plain line, and behind the tree's
-plain-room : (c : tie.After-put-judged) → c .put-judged .result + 84 ≤ length (c .put-judged .last .0)
+plain-room : (c : tie.After-put-judged) → c .put-judged .result + 88 ≤ length (c .put-judged .last .0)
 plain-room c = omega (arith, answer-few (judgedAnswer (c .before .solve-plain .result)))
 
-tree-room : (c : tie.After-put-judged2) → c .put-judged2 .result + 41 ≤ length (c .put-judged2 .last .0)
+tree-room : (c : tie.After-put-judged2) → c .put-judged2 .result + 33 ≤ length (c .put-judged2 .last .0)
 tree-room c = omega (arith, answer-few (judgedAnswer (c .before .before .before .before .before .before .before .solve-built .result)), plain-room (plain-line c))
 
 returns : tie.Need-returns
-returns c = rw (lt-ltb _ 128 (c .if1 .taken)) (record { end = refl; left = refl })
+returns c = rw (lt-ltb _ 144 (c .if1 .taken)) (record { end = refl; left = refl })
 
 check-requires : tie.Need-check-requires
 check-requires c κs = search needs
@@ -57,7 +57,7 @@ returns-2 c =
     let number = c .before .before .before in
     let told = number .before .before .before in
     let test = told .before .before .before in
-    rw (le-ltb _ 128 (test .if1 .left), ← refused-text _ (refused _ (told .before .before .check .ensures) (told .counts2 .given .1)))
+    rw (le-ltb _ 144 (test .if1 .left), ← refused-text _ (refused _ (told .before .before .check .ensures) (told .counts2 .given .1)))
     (rw (number .number .ensures) at (c .before .before .put-refused .ensures))
 
 full-set-requires : tie.Need-full-set-requires
@@ -107,7 +107,7 @@ returns-3 c =
     let all = plain-word .before .before .before in
     let told = all .before in
     let long = told .before .before .before .before .if1 .left in
-    rw (le-ltb _ 128 long, ← accepted-text _ (known told) (all .full-set .ensures) (plain .before .solve-plain .ensures) (built .solve-built .ensures))
+    rw (le-ltb _ 144 long, ← accepted-text _ (known told) (all .full-set .ensures) (plain .before .solve-plain .ensures) (built .solve-built .ensures))
     (puts-then (omega arith) (plain-word .put .ensures)
     (puts-then (omega (arith, plain-word .put)) (plain .put-judged .ensures)
     (puts-then (omega (arith, plain-room plain)) (tree-word .put2 .ensures)
