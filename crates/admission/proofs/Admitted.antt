@@ -55,13 +55,18 @@ module _ (file : List ℕ) (a b : ℕ) where
   unfolding boundNumber
   passes h = none-first (boundChecks file a b) refl h
 
+  -- so the file is accepted
+  pub file-passed : boundNumber file a b ≡ 0 → fileNumber file ≡ 0
+  unfolding fileNumber
+  file-passed h = passes-none (fileChecks file) (passes-both (fileChecks file) (9 if misplaced (linesIn file) a b ∷ []) (passes h) .0)
+
   module _ {r : Reading} (says : readingAnswer r ≡ unless (boundNumber file a b) (sized (linesIn file) (levelsIn file))) where
     pub admitted : {m : Model} → r ≡ reading.Accepted m → Admitted file a b m
     unfolding fileNumber decode
     admitted {m} e =
         let counts = accepted-as (boundNumber file a b) (linesIn file) (levelsIn file) says e in
         let both = passes-both (fileChecks file) (9 if misplaced (linesIn file) a b ∷ []) (passes (counts .number)) in
-        let none : fileNumber file ≡ 0 = passes-none (fileChecks file) (both .0) in
+        let none : fileNumber file ≡ 0 = file-passed (counts .number) in
         let whole = accepted file none in
         record {
           number = counts .number;

@@ -2,22 +2,22 @@
 -- is turned down as judging is.
 -- Assumes nothing.
 use mathlib.Core.List.{List}
-use mathlib.Core.Path.{_≡_, refl, sym, _∙_, ap}
+use mathlib.Core.Path.{_≡_, refl, _∙_, ap}
 use Prim.Native.Nat.{ℕ, zero, suc, _+_, _*_, _≤_, _<_}
 use native.Mathlib.Omega.{arith}
 use borrow.Author.Tests.{le-ltb}
 use lib.ListN.{length}
 use Rattle.answers.specs.Check.{firstOf}
-use Rattle.answers.proofs.Checks.{passes-both, passes-none, none-first, first-before, after-none}
+use Rattle.answers.proofs.Checks.{first-before, after-none}
 use Rattle.sets.specs.Set.{full}
 use Rattle.model.specs.File.{linesIn, decode}
 use Rattle.checker.specs.Checks.{fileNumber}
 use Rattle.checker.proofs.Accepted.{accepted}
-use Rattle.admission.specs.Checks.{boundChecks, boundNumber}
-use Rattle.admission.proofs.Admitted.{never-misplaced}
+use Rattle.admission.proofs.Admitted.{file-passed}
 use Rattle.routes.specs.Routes.{nestedSet}
 use Rattle.routes.proofs.Promises.{whole-range, built-nested}
-use Rattle.solver.specs.Checks.{forecastChecks, builtChecks, builtNumber, programCeiling}
+use Rattle.solver.specs.Checks.{builtChecks, builtNumber, programCeiling}
+use Rattle.solver.proofs.Forecast.{both-passed}
 use Rattle.page_layout.specs.Page.{page}
 use Rattle.page_layout.proofs.Pages.{page-length}
 use Rattle.bench_page.specs.Says.{shownAnswer, pageOf, roomChecks, pageNumber}
@@ -28,10 +28,7 @@ shownNumber file = builtNumber file 0 (full (linesIn file)) programCeiling
 
 -- where it is judged, the file is accepted
 judged-file : (file : List ℕ) → shownNumber file ≡ 0 → fileNumber file ≡ 0
-unfolding builtNumber boundNumber
-judged-file file h =
-    let bounds = boundChecks file 0 (full (linesIn file)) in
-    sym (never-misplaced file) ∙ passes-none bounds (passes-both bounds (forecastChecks file programCeiling) (none-first (builtChecks file 0 (full (linesIn file)) programCeiling) refl h) .0)
+judged-file file h = file-passed file 0 (full (linesIn file)) (both-passed file 0 (full (linesIn file)) programCeiling h .0)
 
 module _ (file : List ℕ) (accepted-file : fileNumber file ≡ 0) where
   -- the page of an accepted file has n + 1 rows

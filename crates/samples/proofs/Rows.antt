@@ -19,4 +19,4 @@ use Rattle.samples.specs.Table.{table, Holds}
 
 pub samples-hold : Holds table
 unfolding table nested extreme restricted level rise fall sumOver levelQueries restrictedQueries thenRounds settle plain leastAmong greatestAmong built halvedChildren leafCount grow children meetPreFixed joinPostFixed selected operands setOf query ones digits places rounded successors rounds unionOf metLines metShare rowsOf page
-samples-hold = (refl, (refl, (refl, (refl, (refl, (refl, (refl, (refl, (refl, (refl, (refl, (refl, (refl, (refl, (refl, (refl, (refl, (refl, (refl, (refl, (refl, (refl, (refl, (refl, (refl, (refl, (refl, (refl, tt))))))))))))))))))))))))))))
+samples-hold = (refl, (refl, (refl, (refl, (refl, (refl, (refl, (refl, (refl, (refl, (refl, (refl, (refl, (refl, (refl, (refl, (refl, (refl, (refl, (refl, (refl, (refl, (refl, (refl, (refl, (refl, (refl, (refl, (refl, (refl, (refl, (refl, tt))))))))))))))))))))))))))))))))

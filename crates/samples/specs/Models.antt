@@ -1,8 +1,8 @@
 -- Document 01's sample models, and those of the requests.
 -- Assumes nothing.
 use mathlib.Core.List.{List, [], _∷_}
-use Prim.Native.Nat.{ℕ}
-use lib.ListN.{replicate}
+use Prim.Native.Nat.{ℕ, _*_}
+use lib.ListN.{length, replicate}
 use Rattle.system.specs.System.{System, systemOf}
 
 -- line 0 is all of (level 1, line 1); line 1 is any of (level 2, line 0)
@@ -43,6 +43,10 @@ spares = systemOf 5 1 (0 ∷ []) (1 ∷ 1 ∷ 0 ∷ 1 ∷ 1 ∷ []) (0 ∷ 0 ∷
 -- a line that is met at level 2 alone: line 0 is any of (level 2, line 2), line 2 any of (level 1, line 0), and line 1, a spare, all of (level 1, line 0)
 abbrev pub metAtLevel2 : System
 metAtLevel2 = systemOf 3 2 (0 ∷ 1 ∷ []) (0 ∷ 1 ∷ 0 ∷ []) (0 ∷ 0 ∷ 0 ∷ []) (0 ∷ 4 ∷ 1 ∷ 0 ∷ 1 ∷ 0 ∷ [])
+
+-- so many lines at levels of these signs, each all of none: a forecast (request W8) looks at nothing else
+abbrev pub idleLines : ℕ → List ℕ → System
+idleLines n signs = systemOf n (length signs) signs (replicate n 1) (replicate n 0) (replicate (n * length signs) 0)
 
 -- sixteen lines that can be met and two spares: line 0 is all of lines 1 to 15, and every other line is all of none
 abbrev pub sixteenMet : System

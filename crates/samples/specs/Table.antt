@@ -6,11 +6,12 @@ use Prim.Native.Nat.{ℕ}
 use Rattle.trees.specs.Built.{built, leafCount}
 use Rattle.system.specs.System.{System}
 use Rattle.system.specs.Joined.{joined}
+use Rattle.admission.specs.Checks.{forecast}
 use Rattle.routes.specs.Routes.{builtLeast, builtGreatest, nestedSet, plainRun, restrictedSet, restrictedCount}
 use Rattle.share.specs.Share.{shareOf}
 use Rattle.met_lines.specs.MetLines.{metLines, metShare}
 use Rattle.page_layout.specs.Page.{page}
-use Rattle.samples.specs.Models.{P, Q, one, deadEnds, pyrometers, oneLineTwice, spares, metAtLevel2, sixteenMet}
+use Rattle.samples.specs.Models.{P, Q, one, deadEnds, pyrometers, oneLineTwice, spares, metAtLevel2, sixteenMet, idleLines}
 
 -- what the definitions give, and what the papers say or what follows from them by hand
 pub record Row : Type 0 where
@@ -89,6 +90,13 @@ table =
     row (nestedSet spares 0 31 ∷ metLines spares ∷ metShare spares (nestedSet spares 0 31) ∷ []) (10 ∷ 7 ∷ 333 ∷ []) ∷
     -- one good line and three good lines of the sixteen that can be met, and one with both spares good beside it
     row (metShare sixteenMet 32768 ∷ metShare sixteenMet 57344 ∷ metShare sixteenMet 229376 ∷ []) (62 ∷ 188 ∷ 62 ∷ []) ∷
+    -- The forecast (request W8): S(2, 1) has two leaves, so P and Q have two times two. Of four lines, two least levels and a greatest one, in either order, the
+    -- trees have L(4, 2) = 8 and L(4, 1) = 4 leaves; turned over, 4 and 8; with all three least, L(4, 3) = 13 and one. The restricted set makes as many queries.
+    row (forecast P ∷ forecast Q ∷ overBuilt P 0 3) (4 ∷ 4 ∷ 3 ∷ 4 ∷ []) ∷
+    row (forecast (idleLines 4 (0 ∷ 0 ∷ 1 ∷ [])) ∷ forecast (idleLines 4 (1 ∷ 0 ∷ 0 ∷ [])) ∷ forecast (idleLines 4 (1 ∷ 0 ∷ 1 ∷ [])) ∷ forecast (idleLines 4 (0 ∷ 0 ∷ 0 ∷ [])) ∷ []) (32 ∷ 32 ∷ 32 ∷ 13 ∷ []) ∷
+    row (overBuilt (idleLines 4 (0 ∷ 0 ∷ 1 ∷ [])) 0 15) (15 ∷ 32 ∷ []) ∷
+    -- 64 lines, four levels of each sign, as models/largest.model has them: 2,645 leaves on both sides
+    row (leafCount 64 4 ∷ forecast (idleLines 64 (0 ∷ 1 ∷ 0 ∷ 1 ∷ 0 ∷ 1 ∷ 0 ∷ 1 ∷ [])) ∷ []) (2645 ∷ 6996025 ∷ []) ∷
     []
 
 -- every row of a table holds

@@ -81,9 +81,9 @@ pub fn put_refused(out: &mut [u8], at: usize, number: u64, count: u64) -> usize
     ensures { λ r. ⌜ Puts at (refusedLine number count) (now (out .entry)) (now (out .exit)) r ⌝ }
 {
     let word = put(out, at, b"refused ");
-    let end = put_decimal(out, word, number);
+    let behind = put_decimal(out, word, number);
     if count == 0 {
-        return put(out, end, b"\n");
+        return put(out, behind, b"\n");
     }
-    put_number_line(out, end, b" ", count)
+    put_number_line(out, behind, b" ", count)
 }
