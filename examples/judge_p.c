@@ -13,7 +13,7 @@ enum { NUMBER, SET, COUNT, LENGTH, LINES, LEVELS, WORDS };
 
 static void show_judged(const char *what, const uint64_t answer[WORDS]) {
     if (answer[NUMBER] != 0) {
-        printf("%s: refused %" PRIu64 "\n", what, answer[NUMBER]);
+        printf("%s: refused %" PRIu64 ", count %" PRIu64 "\n", what, answer[NUMBER], answer[COUNT]);
     } else {
         printf("%s: set %" PRIu64 ", count %" PRIu64 "\n", what, answer[SET], answer[COUNT]);
     }
@@ -53,8 +53,10 @@ int main(void) {
     show_judged("plainly", answer);
     solver_plain(file, length, 0, 3, 2, answer);
     show_judged("plainly with 2 queries", answer);
-    solver_built(file, length, 0, 3, answer);
+    solver_built(file, length, 0, 3, 1000, answer);
     show_judged("by built-in trees", answer);
+    solver_built(file, length, 0, 3, 3, answer);
+    show_judged("by built-in trees with 3 queries", answer);
 
     /* A tree of height 1 with two leaves has one gap, of 1; a tree with one leaf has none. */
     const uint8_t two_leaves[1] = {1};
@@ -73,10 +75,7 @@ int main(void) {
     uint8_t joined[90];
     solver_join(file, length, file, length, joined, sizeof joined, answer);
     printf("joined: %" PRIu64 " bytes\n", answer[LENGTH]);
-    solver_built(joined, sizeof joined, 0, 15, answer);
+    solver_built(joined, sizeof joined, 0, 15, 1000, answer);
     show_judged("joined, by built-in trees", answer);
-
-    solver_leaf_count(8, 2, answer);
-    printf("leaves for 8 lines, height 2: %" PRIu64 "\n", answer[COUNT]);
     return 0;
 }

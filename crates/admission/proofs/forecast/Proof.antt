@@ -1,11 +1,9 @@
 -- `admission::forecast` meets its contract: the levels that are not least are greatest, and the leaves of both trees are few enough for their product.
 -- Assumes nothing.
-use mathlib.Core.Path.{_≡_, refl, _∙_, ap, ap₂}
-use Prim.Native.Nat.{ℕ, _+_, _-_, _*_, _≤_}
-use native.Mathlib.Nat.{le-trans}
+use mathlib.Core.Path.{_≡_, _∙_, ap, ap₂}
+use Prim.Native.Nat.{_+_, _-_, _*_}
 use native.Mathlib.Omega.{arith}
 use denote.Ref.{now}
-use lib.Dec.{lit<}
 use Rattle.trees.specs.Built.{leafCount}
 use Rattle.fixpoint.proofs.Levels.{levels-sum}
 use Rattle.system.specs.System.{System, sign}
@@ -45,7 +43,7 @@ leaf-count-at-requires c κs =
 leaf-count-at-requires-2 : tie.Need-leaf-count-at-requires-2
 leaf-count-at-requires-2 c κs =
     let held = c .before .before .before .before .pre .laid-out in
-    (held .few-lines, omega (arith, held .few-levels))
+    (held .few-lines, omega (arith, together (c .before), held .few-levels))
 
 -- both counts of leaves
 leaves : (c : tie.After-leaf-count-at2) →
