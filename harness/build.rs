@@ -15,10 +15,14 @@ fn main() {
     println!("cargo:rustc-link-lib=static=solver_c");
 
     println!("cargo:rerun-if-env-changed=EARLIER_ENGINE");
-    println!("cargo:rustc-check-cfg=cfg(earlier_engine)");
+    println!("cargo:rerun-if-env-changed=EARLIER_WITHOUT_CEILING");
+    println!("cargo:rustc-check-cfg=cfg(earlier_engine, earlier_without_ceiling)");
     if let Ok(folder) = std::env::var("EARLIER_ENGINE") {
         println!("cargo:rustc-link-search=native={folder}");
         println!("cargo:rustc-link-lib=static=earlier");
         println!("cargo:rustc-cfg=earlier_engine");
+        if std::env::var_os("EARLIER_WITHOUT_CEILING").is_some() {
+            println!("cargo:rustc-cfg=earlier_without_ceiling");
+        }
     }
 }

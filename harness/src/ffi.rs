@@ -58,7 +58,6 @@ mod raw {
             buffer_len: usize,
             answer: *mut u64,
         );
-        pub fn solver_leaf_count(n: usize, h: usize, answer: *mut u64);
     }
 }
 
@@ -128,12 +127,13 @@ pub fn query(file: &[u8], arguments: &[u64]) -> Answer {
     })
 }
 
-/// The three judgings, under the names that an engine's library has for them.
+/// The three judgings, under the names that an engine's library has for them. The one by built-in trees has a ceiling, or none where the
+/// parentheses are empty.
 macro_rules! judgings {
-    ($plain:ident, $built:ident, $lent:ident) => {
+    ($plain:ident, $built:ident($($ceiling:ident)?), $lent:ident) => {
         extern "C" {
             fn $plain(file: *const u8, file_len: usize, a: u64, b: u64, ceiling: u64, answer: *mut u64);
-            fn $built(file: *const u8, file_len: usize, a: u64, b: u64, answer: *mut u64);
+            fn $built(file: *const u8, file_len: usize, a: u64, b: u64, $($ceiling: u64,)? answer: *mut u64);
             fn $lent(
                 file: *const u8,
                 file_len: usize,
@@ -151,8 +151,8 @@ macro_rules! judgings {
             answered(|answer| unsafe { $plain(file.as_ptr(), file.len(), a, b, ceiling, answer) })
         }
 
-        pub fn built(file: &[u8], a: u64, b: u64) -> Answer {
-            answered(|answer| unsafe { $built(file.as_ptr(), file.len(), a, b, answer) })
+        pub fn built(file: &[u8], a: u64, b: u64, $($ceiling: u64)?) -> Answer {
+            answered(|answer| unsafe { $built(file.as_ptr(), file.len(), a, b, $($ceiling,)? answer) })
         }
 
         pub fn lent(file: &[u8], a: u64, b: u64, u: &[u8], v: &[u8]) -> Answer {
@@ -163,14 +163,17 @@ macro_rules! judgings {
     };
 }
 
-judgings!(solver_plain, solver_built, solver_lent);
+judgings!(solver_plain, solver_built(ceiling), solver_lent);
 
 /// The judgings of an earlier engine, which `earlier.sh` links under other names.
 #[cfg(earlier_engine)]
 pub mod earlier {
     use super::{answered, Answer};
 
-    judgings!(earlier_plain, earlier_built, earlier_lent);
+    #[cfg(not(earlier_without_ceiling))]
+    judgings!(earlier_plain, earlier_built(ceiling), earlier_lent);
+    #[cfg(earlier_without_ceiling)]
+    judgings!(earlier_plain, earlier_built(), earlier_lent);
 }
 
 pub fn page(file: &[u8], buffer: &mut [u8]) -> Answer {
@@ -217,15 +220,15 @@ pub fn parts_read(file: &[u8], n: usize, d: usize) -> Parts {
     parts
 }
 
-/// What every operation that takes a file answers, with nothing else to refuse if the file has n lines and d levels: reading, one
-/// query, the three judgings, the page, and joining it with itself where that makes 64 lines at most.
+/// What every operation that takes a file answers, with nothing else to refuse if the file has n lines and d levels and the page's
+/// ceiling suffices: reading, one query, the three judgings, the page, and joining it with itself where that makes 64 lines at most.
 pub fn all_of_file(file: &[u8], n: usize, d: usize) -> Vec<Answer> {
     let all = full(n);
     let mut answers = vec![
         read(file, &mut [0; 8], &mut [0; 64], &mut [0; 64], &mut [0; 512]),
         query(file, &vec![0; d]),
         plain(file, 0, all, u64::MAX),
-        built(file, 0, all),
+        built(file, 0, all, u64::MAX),
         lent(file, 0, all, &[], &[]),
         page(file, &mut [0; 2665]),
     ];
@@ -233,8 +236,4 @@ pub fn all_of_file(file: &[u8], n: usize, d: usize) -> Vec<Answer> {
         answers.push(join(file, file, &mut [0; 4248]));
     }
     answers
-}
-
-pub fn leaf_count(n: usize, h: usize) -> Answer {
-    answered(|answer| unsafe { raw::solver_leaf_count(n, h, answer) })
 }

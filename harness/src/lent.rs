@@ -1,9 +1,10 @@
-//! What the tests lend to operations, and which answers came up.
+//! What the tests lend to operations, the page beside the reference's, and which answers came up.
 
 use std::collections::BTreeMap;
 use std::fmt::Debug;
 
-use crate::Answer;
+use crate::random::Random;
+use crate::{ffi, reference, Answer};
 
 /// A slice lent to an operation, with entries before and behind it that are none of the operation's business.
 #[derive(Clone, Debug, PartialEq)]
@@ -28,6 +29,31 @@ impl<T: Copy + Debug + PartialEq> Lent<T> {
 /// The length of the new file of a model of n lines and d levels, and so of the buffer that it needs.
 pub fn file_length(n: usize, d: usize) -> usize {
     16 + d + 2 * n + 8 * n * d
+}
+
+/// The length of the page of n lines, and so of the buffer that it needs.
+pub fn page_length(n: usize) -> usize {
+    41 * (n + 1)
+}
+
+/// Makes the page in a buffer of this length, by the engine and by the reference, and compares all they leave.
+pub fn page_both(random: &mut Random, file: &[u8], length: usize) -> Answer {
+    page_beside(random, file, length, |buffer| reference::page(file, buffer))
+}
+
+/// The same where the reference's part is this.
+pub fn page_beside(
+    random: &mut Random,
+    file: &[u8],
+    length: usize,
+    make: impl FnOnce(&mut [u8]) -> Answer,
+) -> Answer {
+    let mut buffer = Lent::new(length, |count| random.bytes(count));
+    let mut expected = buffer.clone();
+    let answer = ffi::page(file, buffer.slice());
+    assert_eq!(answer, make(expected.slice()), "{length} {file:?}");
+    assert_eq!(buffer, expected, "{length} {file:?}");
+    answer
 }
 
 /// How often each number was answered.

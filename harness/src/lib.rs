@@ -3,7 +3,7 @@
 //! - `ffi`: the engine's operations.
 //! - `reference`: an unrelated implementation of document 01, which the tests compare the engine with.
 //! - `random`: models, files, bounds and trees from a seed.
-//! - `lent`: what the tests lend to operations, and which answers came up.
+//! - `lent`: what the tests lend to operations, the page beside the reference's, and which answers came up.
 //! - `baseline`: the routes, the bench page and joining in Rust, which the benchmark compares the engine's speed with.
 
 mod answer;
@@ -14,6 +14,9 @@ pub mod random;
 pub mod reference;
 
 pub use answer::Answer;
+
+/// The ceiling of the bench page, and of both judgings in the judging program.
+pub const PROGRAM_CEILING: u64 = 1_000_000;
 
 /// The path of a file of the repository.
 pub fn root(path: &str) -> String {

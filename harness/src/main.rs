@@ -13,8 +13,8 @@ use harness::baseline::page::page;
 use harness::baseline::{by_levels, whole};
 use harness::lent::file_length;
 use harness::random::{self, full, Density, Random};
-use harness::reference::{Kind, Model, Tree};
-use harness::{ffi, Answer};
+use harness::reference::{forecast, Kind, Model, Tree};
+use harness::{ffi, Answer, PROGRAM_CEILING};
 
 /// Where a plain run is cut off, so that each ends in reasonable time.
 const CEILING: u64 = 200_000;
@@ -90,12 +90,16 @@ impl Judge {
         }
     }
 
+    /// Under a ceiling that no forecast is over.
     fn built(self, file: &[u8], a: u64, b: u64) -> Answer {
+        let ceiling = black_box(u64::MAX);
         match self {
-            Judge::Engine => ffi::built(file, a, b),
-            Judge::Whole => whole::built(file, a, b),
-            Judge::Levels => by_levels::built(file, a, b),
-            #[cfg(earlier_engine)]
+            Judge::Engine => ffi::built(file, a, b, ceiling),
+            Judge::Whole => whole::built(file, a, b, ceiling),
+            Judge::Levels => by_levels::built(file, a, b, ceiling),
+            #[cfg(all(earlier_engine, not(earlier_without_ceiling)))]
+            Judge::Earlier => ffi::earlier::built(file, a, b, ceiling),
+            #[cfg(earlier_without_ceiling)]
             Judge::Earlier => ffi::earlier::built(file, a, b),
         }
     }
@@ -208,14 +212,13 @@ fn model_of(seed: u64, lines: usize, levels: usize, kinds: &[Kind], density: Den
 impl Subject {
     fn new(name: &'static str, layout: Layout, model: Model) -> Subject {
         let lines = model.lines();
-        let (least, greatest) = (model.least_levels(), model.greatest_levels());
-        let leaves = |h| Tree::built_in(lines, h).leaf_count();
-        let (u, v) = (largest_lent(lines, least), largest_lent(lines, greatest));
+        let u = largest_lent(lines, model.least_levels());
+        let v = largest_lent(lines, model.greatest_levels());
         Subject {
             name,
             lines,
             file: if layout == Layout::Old { model.old_file() } else { model.file() },
-            built_queries: leaves(least) * leaves(greatest),
+            built_queries: forecast(&model),
             lent_queries: ((u.len() + 1) * (v.len() + 1)) as u64,
             u,
             v,
@@ -348,6 +351,41 @@ fn row(
     }
     println!("{}", before.map_or(String::new(), |before| format!(" {:6.1}", seconds[0] / before)));
     Some(seconds[0])
+}
+
+// ---- a refused forecast ----
+
+/// Judging by built-in trees under a ceiling that the forecast is over: the file is checked, and nothing is judged.
+fn print_refusals(effort: Effort) {
+    println!("\na refused forecast, ceiling 1,000,000: by the engine and by Rust (levels); the median of the engine's time / Rust's");
+    println!(
+        "{:>5} {:>6} {:6} {:>9} {:>8} {:>8} {:>7}",
+        "lines", "levels", "model", "forecast", "engine", "levels", "levels"
+    );
+    let (lines, levels) = (64, 8);
+    for make in [Subject::dense, Subject::sparse] {
+        let models: Vec<Subject> =
+            (1..=effort.models).map(|seed| make(Layout::Old, seed, lines, levels)).collect();
+        let refused = |judge: fn(&[u8], u64, u64, u64) -> Answer, model: &Subject| {
+            judge(black_box(&model.file), black_box(0), black_box(full(lines)), black_box(PROGRAM_CEILING))
+        };
+        for model in &models {
+            for judge in [ffi::built, by_levels::built] {
+                assert_eq!(refused(judge, model), Answer::over(model.built_queries));
+            }
+        }
+        let times = measure(
+            effort,
+            &models,
+            &[&|model| refused(ffi::built, model), &|model| refused(by_levels::built, model)],
+        );
+        let Subject { name, built_queries, .. } = &models[0];
+        let [engine, rust] = [times.seconds[0], times.seconds[1]].map(time);
+        println!(
+            "{lines:5} {levels:6} {name:6} {built_queries:9} {engine:>8} {rust:>8} {:7.3}",
+            times.ratios[1]
+        );
+    }
 }
 
 // ---- the page ----
@@ -565,6 +603,7 @@ fn benchmark(effort: Effort) {
         }
     }
 
+    print_refusals(effort);
     print_pages(effort);
     print_joins(effort);
     print_stacks();

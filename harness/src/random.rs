@@ -1,5 +1,6 @@
 //! Models, files, bounds and trees from a seed, valid and not.
 
+use crate::reference::forecast::Size;
 use crate::reference::game::winning_lines;
 use crate::reference::model::Parts;
 use crate::reference::tree::lower_bound_model;
@@ -86,6 +87,13 @@ pub fn signs(random: &mut Random, d: usize) -> Vec<bool> {
         2 => vec![first; d],
         _ => (0..d).map(|_| random.chance(50)).collect(),
     }
+}
+
+/// Signs of so many least and greatest levels, in any order.
+pub fn signs_of(random: &mut Random, least: usize, greatest: usize) -> Vec<bool> {
+    let mut signs = [vec![false; least], vec![true; greatest]].concat();
+    shuffle(random, &mut signs);
+    signs
 }
 
 /// How many lines of a hundred a model leaves without operands: none in two models of five.
@@ -321,6 +329,22 @@ pub fn any_model(random: &mut Random, n: usize, d: usize) -> Model {
     model(random, n, &signs, density)
 }
 
+/// Lines and levels of a model for the page: most often few levels, and else so many of both that the forecast may be over its ceiling.
+pub fn size_for_page(random: &mut Random) -> (usize, usize) {
+    if random.chance(80) {
+        (random.between(1, 64), random.between(1, 3))
+    } else {
+        (random.between(56, 64), random.between(6, 8))
+    }
+}
+
+/// A model of this size, its levels in any order.
+pub fn model_of_size(random: &mut Random, size: Size) -> Model {
+    let signs = signs_of(random, size.least, size.greatest);
+    let density = density(random, size.lines);
+    model(random, size.lines, &signs, density)
+}
+
 /// Models of so many lines each, of any of these sorts but with the same signs of d levels, as those have that can be joined.
 pub fn models_alike<const COUNT: usize>(
     random: &mut Random,
@@ -411,6 +435,13 @@ impl Case {
 pub fn case(random: &mut Random, n: usize, d: usize) -> Case {
     let model = any_model(random, n, d);
     let bounds = bounds(random, n);
+    Case::new(random, model, bounds)
+}
+
+/// A case of this size that is judged.
+pub fn case_of_size(random: &mut Random, size: Size) -> Case {
+    let model = model_of_size(random, size);
+    let bounds = bounds(random, size.lines);
     Case::new(random, model, bounds)
 }
 

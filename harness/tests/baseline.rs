@@ -4,13 +4,15 @@ use harness::baseline::join::join;
 use harness::baseline::page::{met_lines, page};
 use harness::baseline::{by_levels, whole};
 use harness::lent::{file_length, Seen};
-use harness::random::{self, full, Random};
-use harness::reference::{self, word_of, Model};
+use harness::random::{self, full, Case, Random};
+use harness::reference::forecast::forecasts;
+use harness::reference::{self, forecast, word_of, Model};
+use harness::Answer;
 
 #[test]
 fn the_baselines_judge_as_the_reference_does() {
     let mut random = Random::new(901);
-    let mut seen = Seen::default();
+    let (mut seen, mut seen_built) = (Seen::default(), Seen::default());
     for _ in 0..5000 {
         let (n, d) = (random.between(1, 64), random.between(1, 8));
         let (n, d) = if random.chance(80) { (n.min(8), d.min(3)) } else { (n, d) };
@@ -29,29 +31,52 @@ fn the_baselines_judge_as_the_reference_does() {
         let plain = whole::plain(file, a, b, 100);
         assert_eq!(plain, reference::plain(file, a, b, 100), "{case:?}");
         assert_eq!(plain, by_levels::plain(file, a, b, 100), "{case:?}");
-        if n <= 8 {
-            let built = reference::built(file, a, b);
-            assert_eq!(whole::built(file, a, b), built, "{case:?}");
-            assert_eq!(by_levels::built(file, a, b), built, "{case:?}");
+        let forecast = forecast(&case.model);
+        for ceiling in [0, forecast - 1, forecast, u64::MAX] {
+            // The reference is slow where a large model is judged.
+            if n <= 8 || ceiling < forecast {
+                let built = reference::built(file, a, b, ceiling);
+                assert_eq!(whole::built(file, a, b, ceiling), built, "{ceiling} {case:?}");
+                assert_eq!(by_levels::built(file, a, b, ceiling), built, "{ceiling} {case:?}");
+                seen_built.note(built);
+            }
         }
         seen.note(lent);
         seen.note(plain);
     }
     seen.assert_each(&[0, 1, 2, 3, 4, 5, 6, 7, 14, 9, 10, 11], 50);
+    seen_built.assert_each(&[0, 1, 2, 3, 4, 5, 6, 7, 14, 9, 10], 100);
+}
+
+#[test]
+fn the_baselines_forecast_every_size_as_the_reference_does() {
+    let mut random = Random::new(906);
+    for (size, forecast) in forecasts() {
+        let Case { file, a, b, .. } = random::case_of_size(&mut random, size);
+        for ceiling in [0, forecast - 1] {
+            for built in [whole::built, by_levels::built] {
+                assert_eq!(built(&file, a, b, ceiling), Answer::over(forecast), "{size:?}");
+            }
+        }
+    }
 }
 
 #[test]
 fn the_baseline_makes_pages_as_the_reference_does() {
     let mut random = Random::new(902);
+    let mut seen = Seen::default();
     for _ in 0..2000 {
-        let (n, d) = (random.between(1, 64), random.between(1, 3));
+        let (n, d) = random::size_for_page(&mut random);
         let file = random::troubled_case(&mut random, n, d).file;
         let room = random.between(0, 100 * n);
         let mut made = random.bytes(room);
         let mut expected = made.clone();
-        assert_eq!(page(&file, &mut made), reference::page(&file, &mut expected), "{room} {file:?}");
+        let answer = page(&file, &mut made);
+        assert_eq!(answer, reference::page(&file, &mut expected), "{room} {file:?}");
         assert_eq!(made, expected, "{file:?}");
+        seen.note(answer);
     }
+    seen.assert_each(&[0, 1, 2, 3, 4, 5, 6, 7, 14, 10, 12], 20);
 }
 
 #[test]

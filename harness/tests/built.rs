@@ -4,29 +4,24 @@ use harness::lent::Seen;
 use harness::random::{self, full, Case, Density, Random};
 use harness::reference::game::winning_lines;
 use harness::reference::nested::nested;
-use harness::reference::{word_of, Model, Tree};
+use harness::reference::{forecast, word_of, Tree};
 use harness::{ffi, reference, Answer};
 
-/// The queries of the built-in trees of a model: the product of their leaves.
-fn queries(model: &Model) -> u64 {
-    let leaves = |h| Tree::built_in(model.lines(), h).leaf_count();
-    leaves(model.least_levels()) * leaves(model.greatest_levels())
-}
-
-/// A case of this size whose built-in trees make at most so many queries, or as many as with all levels of one sign,
-/// which are the fewest.
+/// A case of this size whose forecast is at most so many queries, or as many as with all levels of one sign, which are the
+/// fewest.
 fn case_within(random: &mut Random, n: usize, d: usize, most: u64) -> Case {
     let most = most.max(Tree::built_in(n, d).leaf_count());
     loop {
         let case = random::case(random, n, d);
-        if queries(&case.model) <= most {
+        if forecast(&case.model) <= most {
             return case;
         }
     }
 }
 
+/// Judges under the lowest ceiling that the forecast is not over.
 fn judge(case: &Case) -> Answer {
-    ffi::built(&case.file, case.a, case.b)
+    ffi::built(&case.file, case.a, case.b, forecast(&case.model))
 }
 
 #[test]
@@ -37,7 +32,7 @@ fn small_models_have_the_nested_fixpoint_by_its_definition() {
         let case = random::small_case(&mut random);
         let (a, b) = case.bounds();
         let set = nested(&case.model, &a, &b);
-        let expected = Answer::judged(word_of(&set), queries(&case.model));
+        let expected = Answer::judged(word_of(&set), forecast(&case.model));
         assert_eq!(judge(&case), expected, "{case:?}");
         between += (set != a && set != b) as usize;
     }
@@ -50,7 +45,7 @@ fn every_size_has_the_restricted_set_over_the_trees_nodes() {
     for n in 1..=64 {
         for d in 1..=8 {
             let case = case_within(&mut random, n, d, 10_000);
-            let expected = reference::built(&case.file, case.a, case.b);
+            let expected = reference::built(&case.file, case.a, case.b, u64::MAX);
             assert_eq!(judge(&case), expected, "{case:?}");
         }
     }
@@ -68,7 +63,7 @@ fn larger_models_have_the_winning_lines_of_their_game() {
         }
         let (a, b) = case.bounds();
         let set = winning_lines(&case.model, &a, &b);
-        let expected = Answer::judged(word_of(&set), queries(&case.model));
+        let expected = Answer::judged(word_of(&set), forecast(&case.model));
         assert_eq!(judge(&case), expected, "{case:?}");
         between += (set != a && set != b) as usize;
     }
@@ -84,7 +79,7 @@ fn lower_bound_models_are_judged_too() {
             let case = Case::new(&mut random, model, (0, full(n)));
             let (a, b) = case.bounds();
             let set = winning_lines(&case.model, &a, &b);
-            let expected = Answer::judged(word_of(&set), queries(&case.model));
+            let expected = Answer::judged(word_of(&set), forecast(&case.model));
             assert_eq!(judge(&case), expected, "{case:?}");
         }
     }
@@ -100,7 +95,7 @@ fn the_largest_run_is_judged() {
     let set = winning_lines(&case.model, &a, &b);
     assert!(set != a && set != b && case.model.has_votes());
     // Four least and four greatest levels make the most queries of all signs.
-    assert_eq!(judge(&case), Answer::judged(word_of(&set), queries(&case.model)));
+    assert_eq!(judge(&case), Answer::judged(word_of(&set), forecast(&case.model)));
 }
 
 #[test]
@@ -111,7 +106,7 @@ fn equal_bounds_are_the_set() {
         let mut case = case_within(&mut random, n, d, 10_000);
         case.a = random.word() & full(n);
         case.b = case.a;
-        assert_eq!(judge(&case), Answer::judged(case.a, queries(&case.model)), "{case:?}");
+        assert_eq!(judge(&case), Answer::judged(case.a, forecast(&case.model)), "{case:?}");
     }
 }
 
@@ -128,7 +123,7 @@ fn judging_by_built_in_trees_is_refused_in_order() {
             continue;
         }
         let answer = judge(&case);
-        assert_eq!(answer, reference::built(&case.file, case.a, case.b), "{case:?}");
+        assert_eq!(answer, reference::built(&case.file, case.a, case.b, u64::MAX), "{case:?}");
         seen.note(answer);
     }
     seen.assert_each(&[0, 1, 2, 3, 4, 5, 6, 7, 14, 9], 300);

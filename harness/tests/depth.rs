@@ -6,7 +6,7 @@ use std::thread;
 
 use harness::random::{self, full, Density, Random};
 use harness::reference::restricted::restricted;
-use harness::reference::{good_lines, set_of, word_of, Kind, Model, Operand, Tree};
+use harness::reference::{forecast, good_lines, set_of, word_of, Kind, Model, Operand, Tree};
 use harness::{ffi, Answer};
 
 const GAPS: usize = 1023;
@@ -52,12 +52,12 @@ fn the_deepest_lent_runs_end_on_a_small_stack() {
 
 #[test]
 fn the_deepest_built_in_runs_end_on_a_small_stack() {
-    let leaves = Tree::built_in(64, 4).leaf_count();
     for outermost_greatest in [false, true] {
         let model = model(64, outermost_greatest);
-        let set = good_lines(&model);
+        let (set, forecast) = (good_lines(&model), forecast(&model));
         let file = model.file();
-        let answer = on_a_small_stack(move || ffi::built(&file, 0, full(64)));
-        assert_eq!(answer, Answer::judged(word_of(&set), leaves * leaves));
+        let answer = on_a_small_stack(move || ffi::built(&file, 0, full(64), forecast));
+        assert_eq!(answer, Answer::judged(word_of(&set), forecast));
+        assert_eq!(forecast, 2645 * 2645);
     }
 }

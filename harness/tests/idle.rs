@@ -1,9 +1,9 @@
 //! Idle lines, those without operands (request W2), in every operation: an "any" of none never holds, an "all" of none always does.
 
-use harness::lent::file_length;
+use harness::lent::{file_length, page_length};
 use harness::random::{self, full, Case, Random};
-use harness::reference::{Kind, Model, Operand};
-use harness::{ffi, Answer};
+use harness::reference::{forecast, Kind, Model, Operand};
+use harness::{ffi, Answer, PROGRAM_CEILING};
 
 /// The lines of kind all, as a word.
 fn all_lines(model: &Model) -> u64 {
@@ -44,6 +44,7 @@ fn random_models_have_idle_lines_of_both_kinds() {
 #[test]
 fn models_of_idle_lines_alone_in_every_operation() {
     let mut random = Random::new(1102);
+    let mut refused_pages = 0;
     for n in 1..=64 {
         for d in 1..=8 {
             let kinds = (0..n).map(|_| [Kind::Any, Kind::All][random.between(0, 1)]).collect();
@@ -75,8 +76,9 @@ fn models_of_idle_lines_alone_in_every_operation() {
             let (u, v) = trees(&mut random, &model);
             let leaves = (u.len() as u64 + 1) * (v.len() as u64 + 1);
             assert_eq!(ffi::lent(&file, a, b, &u, &v), Answer::judged(set, leaves), "{u:?} {v:?} {model:?}");
-            let built = ffi::built(&file, a, b);
-            assert_eq!((built.number, built.set), (0, set), "{a} {b} {model:?}");
+            let forecast = forecast(&model);
+            assert_eq!(ffi::built(&file, a, b, forecast), Answer::judged(set, forecast), "{a} {b} {model:?}");
+            assert_eq!(ffi::built(&file, a, b, forecast - 1), Answer::over(forecast), "{a} {b} {model:?}");
 
             if 2 * n <= 64 {
                 let mut joined = vec![9; file_length(2 * n, d)];
@@ -84,8 +86,14 @@ fn models_of_idle_lines_alone_in_every_operation() {
                 assert_eq!(joined, model.joined(&model).file());
             }
 
-            let mut page = vec![0; 41 * (n + 1)];
-            assert_eq!(ffi::page(&file, &mut page).number, 0);
+            let mut page = vec![0; page_length(n)];
+            let answer = ffi::page(&file, &mut page);
+            if forecast > PROGRAM_CEILING {
+                assert_eq!(answer, Answer::over(forecast), "{model:?}");
+                refused_pages += 1;
+                continue;
+            }
+            assert_eq!(answer.number, 0);
             let page = String::from_utf8(page).expect("it is ASCII");
             for (i, row) in page.lines().skip(1).enumerate() {
                 let shown = if model.kinds[i] == Kind::All { "all +" } else { "any -" };
@@ -93,6 +101,7 @@ fn models_of_idle_lines_alone_in_every_operation() {
             }
         }
     }
+    assert!((20..100).contains(&refused_pages), "{refused_pages} of 512 pages are refused");
 }
 
 #[test]
@@ -118,7 +127,7 @@ fn an_idle_line_is_judged_by_its_kind_and_the_bounds_alone() {
         let idle = idle_lines(&model);
         let expected = (a | (b & all_lines(&model))) & idle;
         let (u, v) = trees(&mut random, &model);
-        assert_eq!(ffi::built(&file, a, b).set & idle, expected, "{a} {b} {model:?}");
+        assert_eq!(ffi::built(&file, a, b, u64::MAX).set & idle, expected, "{a} {b} {model:?}");
         assert_eq!(ffi::lent(&file, a, b, &u, &v).set & idle, expected, "{a} {b} {u:?} {v:?} {model:?}");
         let plain = ffi::plain(&file, a, b, 10_000);
         if plain.number == 0 {
@@ -151,10 +160,13 @@ fn an_idle_line_is_a_loop_at_a_level_of_the_right_sign_and_not_of_the_wrong_one(
         if idle_lines(&model) == 0 || model.least_levels() == 0 || model.greatest_levels() == 0 {
             continue;
         }
-        let judged = ffi::built(&file, a, b);
-        assert_eq!(ffi::built(&looped(&model, true).file(), a, b), judged, "{a} {b} {model:?}");
+        // The loops leave the forecast as it is.
+        let judge = |file: &[u8]| ffi::built(file, a, b, forecast(&model));
+        let judged = judge(&file);
+        assert_eq!(judged.number, 0);
+        assert_eq!(judge(&looped(&model, true).file()), judged, "{a} {b} {model:?}");
         compared += 1;
-        misjudged += (ffi::built(&looped(&model, false).file(), a, b) != judged) as usize;
+        misjudged += (judge(&looped(&model, false).file()).set != judged.set) as usize;
     }
     assert!(compared > 500 && misjudged > 200, "{compared} compared, {misjudged} misjudged");
 }

@@ -169,8 +169,10 @@ impl Judged {
         self.plainly += compare(three.map(|(file, all)| ffi::plain(file, 0, all, 20_000)));
         let heights = [models[0].least_levels(), models[0].greatest_levels()];
         let trees = heights.map(|h| Tree::built_in(n + m, h));
-        if trees.iter().map(Tree::leaf_count).product::<u64>() <= 200_000 {
-            self.by_built_in_trees += compare(three.map(|(file, all)| ffi::built(file, 0, all)));
+        let forecast = trees.iter().map(Tree::leaf_count).product();
+        if forecast <= 200_000 {
+            // The forecast of the joined file is the largest of the three.
+            self.by_built_in_trees += compare(three.map(|(file, all)| ffi::built(file, 0, all, forecast)));
             // The trees for the lines of both are universal for the lines of either.
             let [u, v] = trees.map(|tree| tree.gaps());
             self.by_lent_trees += compare(three.map(|(file, all)| ffi::lent(file, 0, all, &u, &v)));
@@ -428,7 +430,7 @@ fn the_other_order_turns_the_set_round() {
         let [first, second] = files(&mut random, &models);
         let [n, m] = sizes;
         let [one, other] = [joined(&first, &second), joined(&second, &first)];
-        let [set, turned] = [&one, &other].map(|file| ffi::built(file, 0, full(n + m)).set);
+        let [set, turned] = [&one, &other].map(|file| ffi::built(file, 0, full(n + m), u64::MAX).set);
         assert_eq!(turned, set >> n | (set & full(n)) << m, "{models:?}");
         others += (one != other && set != turned) as usize;
     }
@@ -468,8 +470,9 @@ fn three_cabinets_are_joined_in_either_grouping() {
         let all = joined(&joined(&a, &b), &c);
         assert_eq!(all, joined(&a, &joined(&b, &c)), "{models:?}");
         assert_eq!(all, models[0].joined(&models[1].joined(&models[2])).file());
-        let [x, y, z] = [(&a, n), (&b, m), (&c, l)].map(|(file, n)| ffi::built(file, 0, full(n)).set);
-        assert_eq!(ffi::built(&all, 0, full(n + m + l)).set, x | y << n | z << (n + m), "{models:?}");
+        let set = |file: &[u8], n: usize| ffi::built(file, 0, full(n), u64::MAX).set;
+        let [x, y, z] = [(&a, n), (&b, m), (&c, l)].map(|(file, n)| set(file, n));
+        assert_eq!(set(&all, n + m + l), x | y << n | z << (n + m), "{models:?}");
     }
 }
 

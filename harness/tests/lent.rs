@@ -4,7 +4,7 @@ use harness::lent::Seen;
 use harness::random::{self, full, Case, Random};
 use harness::reference::nested::nested;
 use harness::reference::tree::lower_bound_model;
-use harness::reference::{word_of, Kind, Tree};
+use harness::reference::{forecast, word_of, Kind, Tree};
 use harness::{ffi, reference, Answer};
 
 /// Judges by the engine and by the reference, and compares.
@@ -130,8 +130,10 @@ fn the_built_in_trees_can_be_lent() {
         let case = random::case(&mut random, n, d);
         let u = Tree::built_in(n, case.model.least_levels()).gaps();
         let v = Tree::built_in(n, case.model.greatest_levels()).gaps();
-        if u.len() <= 1023 && v.len() <= 1023 && (u.len() + 1) * (v.len() + 1) <= 50_000 {
-            assert_eq!(judge_both(&case, &u, &v), ffi::built(&case.file, case.a, case.b), "{case:?}");
+        let forecast = forecast(&case.model);
+        if u.len() <= 1023 && v.len() <= 1023 && forecast <= 50_000 {
+            let built = ffi::built(&case.file, case.a, case.b, forecast);
+            assert_eq!(judge_both(&case, &u, &v), built, "{case:?}");
             lent += 1;
         }
     }

@@ -1,8 +1,8 @@
 //! Old files, without thresholds (request W4), in every operation: each answers as it does to the new file of the same model.
 
 use harness::random::{self, full, Random};
-use harness::reference::{Kind, Model, Tree};
-use harness::{ffi, Answer};
+use harness::reference::{forecast, Kind, Model};
+use harness::{ffi, Answer, PROGRAM_CEILING};
 
 /// A random model that has an old file.
 fn model(random: &mut Random, n: usize, d: usize) -> Model {
@@ -12,11 +12,6 @@ fn model(random: &mut Random, n: usize, d: usize) -> Model {
             return model;
         }
     }
-}
-
-fn built_queries(model: &Model) -> u64 {
-    let leaves = |h| Tree::built_in(model.lines(), h).leaf_count();
-    leaves(model.least_levels()) * leaves(model.greatest_levels())
 }
 
 /// The number that every operation on a file answers.
@@ -31,7 +26,7 @@ fn number(file: &[u8], n: usize, d: usize) -> u64 {
 #[test]
 fn every_operation_answers_as_to_the_new_file() {
     let mut random = Random::new(1301);
-    let mut judged = 0;
+    let (mut judged, mut refused) = (0, 0);
     for n in 1..=64 {
         for d in 1..=8 {
             let model = model(&mut random, n, d);
@@ -68,16 +63,30 @@ fn every_operation_answers_as_to_the_new_file() {
             let u = random::tree(&mut random, model.least_levels(), 40);
             let v = random::tree(&mut random, model.greatest_levels(), 40);
             assert_eq!(ffi::lent(&old, a, b, &u, &v), ffi::lent(&new, a, b, &u, &v), "{a} {b} {model:?}");
-            if built_queries(&model) <= 200_000 {
-                assert_eq!(ffi::built(&old, a, b), ffi::built(&new, a, b), "{a} {b} {model:?}");
+            let forecast = forecast(&model);
+            let built = |ceiling| [&old, &new].map(|file| ffi::built(file, a, b, ceiling));
+            assert_eq!(built(forecast - 1), [Answer::over(forecast); 2], "{a} {b} {model:?}");
+            let pages = || {
                 let mut pages = [vec![7; 2700], vec![7; 2700]];
-                assert_eq!(ffi::page(&old, &mut pages[0]), ffi::page(&new, &mut pages[1]));
-                assert_eq!(pages[0], pages[1], "{model:?}");
+                let answers = [ffi::page(&old, &mut pages[0]), ffi::page(&new, &mut pages[1])];
+                assert_eq!((answers[0], &pages[0]), (answers[1], &pages[1]), "{model:?}");
+                answers[0]
+            };
+            if forecast <= 200_000 {
+                let [judged_old, judged_new] = built(forecast);
+                assert_eq!((judged_old, judged_old.number), (judged_new, 0), "{a} {b} {model:?}");
+                assert_eq!(pages().number, 0);
                 judged += 1;
+            } else if forecast > PROGRAM_CEILING {
+                assert_eq!(pages(), Answer::over(forecast));
+                refused += 1;
             }
         }
     }
-    assert!(judged > 300, "only {judged} models were judged by built-in trees");
+    assert!(
+        judged > 300 && refused > 20,
+        "{judged} models were judged by built-in trees, {refused} pages refused"
+    );
 }
 
 #[test]

@@ -1,34 +1,11 @@
 //! The bench page against the reference, which lays it out with Rust's own formatting: answers, and every byte of the buffer.
 
 use harness::ffi::{page_of, page_share};
-use harness::lent::{Lent, Seen};
+use harness::lent::{page_beside, page_both, page_length, Seen};
 use harness::random::{self, full, Random, FILE_DAMAGES};
-use harness::reference::{page_text, put};
-use harness::{ffi, reference, root, Answer};
-
-/// Makes the page in a buffer of this length, by the engine and by the reference, and compares all they leave.
-fn page_both(random: &mut Random, file: &[u8], length: usize) -> Answer {
-    page_beside(random, file, length, |buffer| reference::page(file, buffer))
-}
-
-/// The same where the reference's part is this.
-fn page_beside(
-    random: &mut Random,
-    file: &[u8],
-    length: usize,
-    make: impl FnOnce(&mut [u8]) -> Answer,
-) -> Answer {
-    let mut buffer = Lent::new(length, |count| random.bytes(count));
-    let mut expected = buffer.clone();
-    let answer = ffi::page(file, buffer.slice());
-    assert_eq!(answer, make(expected.slice()), "{length} {file:?}");
-    assert_eq!(buffer, expected, "{length} {file:?}");
-    answer
-}
-
-fn page_length(n: usize) -> usize {
-    41 * (n + 1)
-}
+use harness::reference::forecast::forecasts;
+use harness::reference::{forecast, page_text, put};
+use harness::{ffi, reference, root, Answer, PROGRAM_CEILING};
 
 fn model_file(name: &str) -> Vec<u8> {
     std::fs::read(root(&format!("models/{name}"))).expect("it is there")
@@ -53,18 +30,27 @@ fn the_pages_of_p_and_q() {
 #[test]
 fn every_size_has_its_page() {
     let mut random = Random::new(1001);
+    let (mut made, mut refused) = (0, 0);
     for n in 1..=64 {
         for d in 1..=8 {
             let model = random::any_model(&mut random, n, d);
             let file = random::file(&mut random, &model);
             let text = page_text(&model).into_bytes();
+            let forecast = forecast(&model);
             for extra in [0, random.between(1, 3000)] {
                 let length = page_length(n) + extra;
+                if forecast > PROGRAM_CEILING {
+                    page_beside(&mut random, &file, length, |_| Answer::over(forecast));
+                    refused += 1;
+                    continue;
+                }
                 let answer = page_beside(&mut random, &file, length, |buffer| put(&text, buffer));
                 assert_eq!(answer, Answer { length: page_length(n) as u64, ..Answer::default() });
+                made += 1;
             }
         }
     }
+    assert!(made > 800 && refused > 50, "{made} made, {refused} refused");
 }
 
 #[test]
@@ -103,24 +89,38 @@ fn the_first_of_several_refusals_answers() {
     let mut random = Random::new(1004);
     let mut seen = Seen::default();
     for _ in 0..5_000 {
-        let (n, d) = (random.between(1, 64), random.between(1, 3));
+        let (n, d) = random::size_for_page(&mut random);
         let file = random::troubled_case(&mut random, n, d).file;
         let room = random.between(0, 2 * page_length(n));
         seen.note(page_both(&mut random, &file, room));
     }
-    seen.assert_each(&[0, 1, 2, 3, 4, 5, 6, 7, 14, 12], 100);
+    seen.assert_each(&[0, 1, 2, 3, 4, 5, 6, 7, 14, 10, 12], 100);
 }
 
 #[test]
-fn the_largest_models_have_their_page() {
+fn models_of_64_lines_have_their_page_up_to_the_ceiling() {
     let mut random = Random::new(1005);
+    let (mut made, mut refused) = (0, 0);
+    for (size, forecast) in forecasts().into_iter().filter(|(size, _)| size.lines == 64) {
+        let model = random::model_of_size(&mut random, size);
+        let file = random::file(&mut random, &model);
+        if forecast > PROGRAM_CEILING {
+            assert_eq!(page_both(&mut random, &file, 2665), Answer::over(forecast));
+            refused += 1;
+        } else {
+            assert_eq!(page_both(&mut random, &file, 2665).length, 2665);
+            assert_eq!(page_both(&mut random, &file, 2664), Answer::refused(12));
+            made += 1;
+        }
+    }
+    assert!(made > 25 && refused > 10, "{made} made, {refused} refused");
     for _ in 0..4 {
-        let file = random::hard_model(&mut random, 64, 4, 20, 30).file();
-        assert_eq!(page_both(&mut random, &file, page_length(64)).length, 2665);
+        let [hard, harder] = [2, 4].map(|h| random::hard_model(&mut random, 64, h, 20, 30).file());
+        assert_eq!(page_both(&mut random, &hard, 2665).length, 2665);
+        assert_eq!(page_both(&mut random, &harder, 2665), Answer::over(6_996_025));
     }
     let largest = model_file("largest.model");
-    assert_eq!(page_both(&mut random, &largest, 2665).length, 2665);
-    assert_eq!(page_both(&mut random, &largest, 2664).number, 12);
+    assert_eq!(page_both(&mut random, &largest, 2665), Answer::over(6_996_025));
 }
 
 #[test]
@@ -134,7 +134,7 @@ fn the_page_marks_the_lines_that_judging_finds() {
         let page = page_of(&file);
         let marks = page.lines().skip(1).map(|row| row.as_bytes()[7]);
         let set = marks.enumerate().filter(|&(_, mark)| mark == b'+').map(|(i, _)| 1 << i).sum::<u64>();
-        assert_eq!(set, ffi::built(&file, 0, full(n)).set, "{page}");
+        assert_eq!(set, ffi::built(&file, 0, full(n), PROGRAM_CEILING).set, "{page}");
         mixed += (set != 0 && set != full(n)) as usize;
     }
     assert!(mixed > 100, "{mixed} pages have lines of both marks");

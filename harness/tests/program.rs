@@ -1,12 +1,13 @@
-//! The judging program and the page program: their texts against the reference's, for the sample models, random files, input in pieces and
-//! input that is too long. The join program: its files and refusals against the reference's, for random pairs of files, 64 lines and 65,
-//! files that are too long, empty or not there. And the scripts of all three.
+//! The judging program and the page program: their texts against the reference's, for the sample models, random files, forecasts around
+//! their ceiling, input in pieces and input that is too long. The join program: its files and refusals against the reference's, for random
+//! pairs of files, 64 lines and 65, files that are too long, empty or not there. And the scripts of all three.
 
 use harness::lent::Seen;
 use harness::random::{self, full, Random};
+use harness::reference::forecast::{forecasts_around, over};
 use harness::reference::met::{chain, with_one_good_line};
-use harness::reference::{self, good_lines, met_lines, share_of, word_of, Kind, Tree};
-use harness::{root, Answer};
+use harness::reference::{self, forecast, good_lines, met_lines, share_of, word_of, Kind};
+use harness::{root, Answer, PROGRAM_CEILING};
 use std::io::Write;
 use std::process::{Command, Output, Stdio};
 use std::time::Duration;
@@ -46,7 +47,15 @@ fn paged(file: &[u8]) -> String {
 fn line(word: &str, answer: Answer) -> String {
     match answer.number {
         0 => format!("{word} {:016x} {}\n", answer.set, answer.count),
-        number => format!("{word} refused {number}\n"),
+        _ => format!("{word} {}", refusal(answer)),
+    }
+}
+
+/// What the programs write of a refusal. Only one with a forecast has a count.
+fn refusal(answer: Answer) -> String {
+    match (answer.number, answer.count) {
+        (number, 0) => refused(number),
+        (number, forecast) => format!("refused {number} {forecast}\n"),
     }
 }
 
@@ -57,10 +66,7 @@ fn refused(number: u64) -> String {
 
 /// The page program's text.
 fn expected_page(file: &[u8]) -> String {
-    match reference::Model::from_file(file) {
-        Ok(model) => reference::page_text(&model),
-        Err(number) => refused(number),
-    }
+    reference::page_of(file).unwrap_or_else(refusal)
 }
 
 /// The judging program's text: the sets by the game, the plain count by rounds, the tree count by the leaves of linked nodes.
@@ -69,12 +75,13 @@ fn expected_judgement(file: &[u8]) -> String {
         Ok(model) => model,
         Err(number) => return refused(number),
     };
-    let n = model.lines();
+    let plain = line("plain", reference::plain(file, 0, full(model.lines()), PROGRAM_CEILING));
+    if let Some(answer) = over(&model, PROGRAM_CEILING) {
+        return plain + &line("tree", answer) + "share none\n";
+    }
     let set = good_lines(&model);
-    let leaves = |h| Tree::built_in(n, h).leaf_count();
-    let tree = Answer::judged(word_of(&set), leaves(model.least_levels()) * leaves(model.greatest_levels()));
-    let plain = reference::plain(file, 0, full(n), 1_000_000);
-    line("plain", plain) + &line("tree", tree) + &format!("share {}\n", share_of(&model, &set))
+    let tree = Answer::judged(word_of(&set), forecast(&model));
+    plain + &line("tree", tree) + &format!("share {}\n", share_of(&model, &set))
 }
 
 #[test]
@@ -99,7 +106,8 @@ fn the_sample_models_show_what_their_note_says() {
     assert_eq!(text("models/q.model"), "plain 0000000000000000 3\ntree 0000000000000000 4\nshare 0\n");
     assert_eq!(text("models/one-line.model"), "plain 0000000000000000 1\ntree 0000000000000000 1\nshare 0\n");
     assert!(text("models/incident.model").contains("tree 0000000000000002 9\nshare 0\n"));
-    assert!(text("models/largest.model").starts_with("plain refused 10\n"));
+    assert_eq!(text("models/largest.model"), "plain refused 10\ntree refused 10 6996025\nshare none\n");
+    assert_eq!(paged(&bytes_of("models/largest.model")), "refused 10 6996025\n");
     assert_eq!(
         text("models/tripped.model"),
         "plain 0000000000000007 6\ntree 0000000000000007 16\nshare 750\n"
@@ -267,6 +275,81 @@ fn random_files_are_judged_or_refused() {
 }
 
 #[test]
+fn random_files_are_judged_up_to_the_ceiling() {
+    let mut random = Random::new(808);
+    let (mut judged, mut over, mut plainly_alone, mut damaged) = (0, 0, 0, 0);
+    for _ in 0..150 {
+        let (n, d) = (random.between(50, 64), random.between(5, 8));
+        let model = random::sparse_model(&mut random, n, d);
+        let mut file = random::file(&mut random, &model);
+        if random.chance(15) {
+            random::damage_file_often(&mut random, &mut file, n, d);
+        }
+        let text = both_programs(&file);
+        if text.starts_with("refused") {
+            damaged += 1;
+        } else if text.ends_with("\nshare none\n") {
+            over += 1;
+            plainly_alone += !text.starts_with("plain refused") as usize;
+        } else {
+            judged += 1;
+        }
+    }
+    assert!(
+        judged > 30 && over > 30 && plainly_alone > 30 && damaged > 10,
+        "{judged} judged, {over} over the ceiling and {plainly_alone} of these judged plainly, {damaged} damaged"
+    );
+}
+
+/// A model of levels whose signs alternate, each with a chain of so many lines that read one another at that level alone: they get to be
+/// what they are one by one, in a round each, and a last round shows the same.
+fn slow_model(chains: &[usize]) -> reference::Model {
+    let greatest = random::alternating(chains.len(), false);
+    let mut lines = Vec::new();
+    for (level, &length) in chains.iter().enumerate() {
+        let first = lines.len();
+        lines.push((if greatest[level] { Kind::Any } else { Kind::All }, Vec::new()));
+        lines.extend((1..length).map(|at| (Kind::Any, vec![(level + 1, first + at - 1)])));
+    }
+    let lines: Vec<_> = lines.iter().map(|(kind, operands)| (*kind, &operands[..])).collect();
+    reference::Model::of(&greatest, &lines)
+}
+
+#[test]
+fn a_plain_run_over_the_ceiling_is_cut_off_and_the_trees_judge_all_the_same() {
+    // Ten rounds at each of six levels are a million queries, and eleven at one of them are 100,000 more.
+    for (longest, plainly) in [(9, true), (10, false)] {
+        let model = slow_model(&[9, 9, longest, 9, 9, 9]);
+        let text = both_programs(&random::file(&mut Random::new(810), &model));
+        let (set, forecast) = (word_of(&good_lines(&model)), forecast(&model));
+        let plain = if plainly { format!("{set:016x} 1000000") } else { "refused 10".to_string() };
+        assert_eq!(text, format!("plain {plain}\ntree {set:016x} {forecast}\nshare 1000\n"));
+    }
+}
+
+#[test]
+fn the_forecasts_nearest_to_the_ceiling_are_judged_and_refused() {
+    let mut random = Random::new(809);
+    let [(within, judged), (over, refused)] = forecasts_around(PROGRAM_CEILING);
+    for size in judged {
+        let model = random::model_of_size(&mut random, size);
+        let file = random::file(&mut random, &model);
+        let text = both_programs(&file);
+        let tree = text.lines().nth(1).expect("it has three lines");
+        assert!(tree.starts_with("tree ") && tree.ends_with(&format!(" {within}")), "{size:?}: {text}");
+        assert!(!tree.contains("refused") && !text.ends_with("share none\n"), "{size:?}: {text}");
+        assert!(paged(&file).starts_with("lines "), "{size:?}");
+    }
+    for size in refused {
+        let model = random::model_of_size(&mut random, size);
+        let file = random::file(&mut random, &model);
+        let text = both_programs(&file);
+        assert!(text.ends_with(&format!("\ntree refused 10 {over}\nshare none\n")), "{size:?}: {text}");
+        assert_eq!(paged(&file), format!("refused 10 {over}\n"), "{size:?}");
+    }
+}
+
+#[test]
 fn input_in_pieces_is_one_input() {
     for name in ["models/p.model", "models/incident.model"] {
         let file = bytes_of(name);
@@ -280,10 +363,22 @@ fn input_in_pieces_is_one_input() {
 #[test]
 fn input_that_is_too_long_is_refused() {
     let model = |name: &str| reference::Model::from_file(&bytes_of(name)).expect("it is a model");
-    let (largest, small) = (model("models/largest.model"), model("models/p.model"));
+    let (mut largest, small) = (model("models/largest.model"), model("models/p.model"));
+    let over = [largest.file(), largest.old_file()];
+    // With one sign the forecast is within the ceiling.
+    largest.greatest = vec![true; 8];
+    let within = [largest.file(), largest.old_file(), small.file(), small.old_file()];
     assert_eq!((largest.file().len(), largest.old_file().len()), (4248, 4184));
-    for file in [largest.file(), largest.old_file(), small.file(), small.old_file()] {
-        assert!(!judged(&file).starts_with("refused") && !paged(&file).starts_with("refused"));
+    for file in &within {
+        let text = judged(file);
+        assert!(text.starts_with("plain ") && !text.contains("tree refused"), "{text}");
+        assert!(paged(file).starts_with("lines "));
+    }
+    for file in &over {
+        assert!(judged(file).contains("tree refused 10 6996025\n"));
+        assert_eq!(paged(file), "refused 10 6996025\n");
+    }
+    for file in within.iter().chain(&over) {
         // 64 more make the largest old file as long as the largest new one.
         for more in [1, 2, 64, 65, 5_000, 200_000] {
             let long = [&file[..], &vec![0; more]].concat();

@@ -1,6 +1,7 @@
 //! The reference's ways to one set against each other, and against document 01's numbers. The engine is not called.
 
 use harness::random::{self, full, Case, Density, Random, Written, FILE_DAMAGES, WRITTEN_DAMAGES};
+use harness::reference::forecast::{built_in_trees, forecasts, forecasts_around, Size};
 use harness::reference::game::winning_lines;
 use harness::reference::met::{chain, ends_of_paths, with_one_good_line, without_spares};
 use harness::reference::model::{Model, Parts};
@@ -9,13 +10,14 @@ use harness::reference::plain::rounds;
 use harness::reference::restricted::restricted;
 use harness::reference::tree::lower_bound_model;
 use harness::reference::votes::{exchanges, without_votes};
-use harness::reference::{self, good_lines, met_lines, set_of, share_of, word_of, Kind, Operand, Set, Tree};
+use harness::reference::{
+    self, forecast, good_lines, met_lines, set_of, share_of, word_of, Kind, Operand, Set, Tree,
+};
 use harness::root;
 
 /// The restricted set over the built-in trees.
 fn over_built_in_trees(model: &Model, a: &[bool], b: &[bool]) -> (Vec<bool>, u64) {
-    let u = Tree::built_in(model.lines(), model.least_levels());
-    let v = Tree::built_in(model.lines(), model.greatest_levels());
+    let [u, v] = built_in_trees(model);
     restricted(model, a, b, &u, &v)
 }
 
@@ -491,6 +493,39 @@ fn the_restricted_sets_count_is_the_product_of_the_leaves() {
         let (_, count) = restricted(&case.model, &a, &b, &tree_u, &tree_v);
         assert_eq!(count, tree_u.leaf_count() * tree_v.leaf_count(), "{case:?}");
     }
+}
+
+#[test]
+fn the_forecast_is_the_count_of_the_restricted_set_over_built_in_trees() {
+    let mut random = Random::new(121);
+    let mut counted = 0;
+    for (size, product) in forecasts() {
+        let case = random::case_of_size(&mut random, size);
+        let model = &case.model;
+        let sizes = [model.lines(), model.least_levels(), model.greatest_levels()];
+        assert_eq!(sizes, [size.lines, size.least, size.greatest]);
+        assert_eq!(forecast(model), product, "{size:?}");
+        if product <= 300 {
+            let (a, b) = case.bounds();
+            assert_eq!(over_built_in_trees(model, &a, &b).1, product, "{case:?}");
+            counted += 1;
+        }
+    }
+    assert!(counted > 400, "only {counted} sizes were counted");
+}
+
+#[test]
+fn every_size_has_one_forecast() {
+    let all = forecasts();
+    // Levels of each sign, from one to eight together: 44 pairs for each number of lines.
+    assert_eq!(all.len(), 64 * 44);
+    assert!((0..all.len()).all(|i| all[..i].iter().all(|(size, _)| *size != all[i].0)));
+    // One line has one leaf at every height, and the next smallest forecast is that of two lines and one level.
+    let [(within, small), (over, next)] = forecasts_around(1);
+    assert_eq!((within, small.len(), over), (1, 44, 2));
+    assert!(small.iter().all(|size| size.lines == 1));
+    let of_two_lines = |least, greatest| Size { lines: 2, least, greatest };
+    assert_eq!(next, [of_two_lines(0, 1), of_two_lines(1, 0)]);
 }
 
 #[test]

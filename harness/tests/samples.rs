@@ -84,9 +84,9 @@ fn p_is_queried() {
 fn p_and_q_between_empty_and_full() {
     for (p, q) in ps().iter().zip(&qs()) {
         assert_eq!(ffi::plain(p, 0, 3, 1_000_000), Answer::judged(3, 3));
-        assert_eq!(ffi::built(p, 0, 3), Answer::judged(3, 4));
+        assert_eq!(ffi::built(p, 0, 3, 1_000_000), Answer::judged(3, 4));
         assert_eq!(ffi::plain(q, 0, 3, 1_000_000), Answer::judged(0, 3));
-        assert_eq!(ffi::built(q, 0, 3), Answer::judged(0, 4));
+        assert_eq!(ffi::built(q, 0, 3, 1_000_000), Answer::judged(0, 4));
     }
 }
 
@@ -111,7 +111,7 @@ fn p_is_joined() {
         assert_eq!(ffi::join(&first, &qs()[0], &mut buffer), Answer::refused(15));
     }
     assert_eq!(ffi::plain(&TWO_PS, 0, 15, 1_000_000), Answer::judged(15, 3));
-    assert_eq!(ffi::built(&TWO_PS, 0, 15), Answer::judged(15, 16));
+    assert_eq!(ffi::built(&TWO_PS, 0, 15, 16), Answer::judged(15, 16));
 }
 
 #[test]
@@ -122,7 +122,7 @@ fn cabinets_with_other_votes_side_by_side() {
     assert_eq!(answer, Answer { length: 16 + 1 + 16 + 64, ..Answer::default() });
     let file = &buffer[..answer.length as usize];
     assert_eq!(ffi::plain(file, 0, 255, 10), Answer::judged(11 + 16 * 3, 3));
-    assert_eq!(ffi::built(file, 0, 255), Answer::judged(11 + 16 * 3, 8));
+    assert_eq!(ffi::built(file, 0, 255, 8), Answer::judged(11 + 16 * 3, 8));
     assert_eq!(ffi::join(&three_pyrometers(4), &three_pyrometers(0), &mut []), Answer::refused(14));
 }
 
@@ -150,7 +150,7 @@ fn a_vote_of_three() {
         let file = three_pyrometers(t);
         assert_eq!(file.len(), 57);
         assert_eq!(ffi::plain(&file, 0, 15, 10), Answer::judged(set, rounds));
-        assert_eq!(ffi::built(&file, 0, 15), Answer::judged(set, 4));
+        assert_eq!(ffi::built(&file, 0, 15, 4), Answer::judged(set, 4));
         assert_eq!(ffi::lent(&file, 0, 15, &[], &[]), Answer::judged(3, 1));
         assert_eq!(ffi::lent(&file, 0, 15, &[1], &[]), Answer::judged(set, 2));
         let mut page = [0; 41 * 5];
@@ -159,7 +159,7 @@ fn a_vote_of_three() {
         assert_eq!(String::from_utf8_lossy(&page[41 * 4..]), row);
     }
     for t in [0, 4, 255] {
-        assert_eq!(ffi::built(&three_pyrometers(t), 0, 15), Answer::refused(14));
+        assert_eq!(ffi::built(&three_pyrometers(t), 0, 15, 0), Answer::refused(14));
     }
 }
 
@@ -170,7 +170,7 @@ fn a_vote_of_one_line_at_two_levels() {
         let operands = vec![[0, 1].map(|level| Operand { level, line: 0 }).to_vec()];
         let file = Model { greatest: vec![false, true], kinds: vec![Kind::AtLeast(t)], operands }.file();
         assert_eq!(ffi::plain(&file, 0, 1, 10).set, set);
-        assert_eq!(ffi::built(&file, 0, 1), Answer::judged(set, 1));
+        assert_eq!(ffi::built(&file, 0, 1, 1), Answer::judged(set, 1));
     }
 }
 
@@ -190,7 +190,7 @@ fn lines_without_operands() {
         let file = dead_ends(greatest);
         assert_eq!(ffi::plain(&file, 0, 15, 2), Answer::judged(set, 2));
         assert_eq!(ffi::plain(&file, 0, 15, 1), Answer::refused(10));
-        assert_eq!(ffi::built(&file, 0, 15), Answer::judged(set, 4));
+        assert_eq!(ffi::built(&file, 0, 15, 4), Answer::judged(set, 4));
     }
 }
 
@@ -213,7 +213,7 @@ fn shares_at_a_half() {
             let mut operands = vec![Vec::new(); n];
             operands[0] = (1..16).map(|line| Operand { level: 0, line }).collect();
             let file = Model { greatest: vec![false], kinds, operands }.file();
-            assert_eq!(ffi::built(&file, 0, full(n)).set.count_ones() as usize, good + spares / 2);
+            assert_eq!(ffi::built(&file, 0, full(n), n as u64).set.count_ones() as usize, good + spares / 2);
             assert_eq!(first_row(&file, n), format!("lines {n} levels 1 share {share}            \n"));
         }
     }
@@ -234,7 +234,7 @@ fn spare_lines_do_not_count() {
         let mut files = vec![model.file()];
         files.extend((!model.has_votes()).then(|| model.old_file()));
         for file in files {
-            assert_eq!(ffi::built(&file, 0, 15).set, set);
+            assert_eq!(ffi::built(&file, 0, 15, 16), Answer::judged(set, 16));
             assert_eq!(first_row(&file, 4), format!("lines  4 levels 2 share {share}            \n"));
         }
     };
@@ -261,14 +261,20 @@ fn spare_lines_do_not_count() {
 #[test]
 fn p_between_equal_bounds() {
     assert_eq!(ffi::plain(&P, 1, 1, 10).set, 1);
-    assert_eq!(ffi::built(&P, 1, 1).set, 1);
+    assert_eq!(ffi::built(&P, 1, 1, 4).set, 1);
     assert_eq!(ffi::lent(&P, 1, 1, &[], &[]).set, 1);
 }
 
 #[test]
 fn leaf_counts() {
-    for (n, h, count) in [(4, 2, 8), (8, 2, 21), (4, 3, 13), (64, 1, 64), (64, 0, 1)] {
-        assert_eq!(ffi::leaf_count(n, h), Answer { count, ..Answer::default() });
+    // With h levels of one sign the other tree has height 0 and one leaf.
+    for (n, h, leaves) in [(4, 2, 8), (8, 2, 21), (4, 3, 13), (64, 1, 64)] {
+        for greatest in [false, true] {
+            let file = Model::of(&vec![greatest; h], &vec![(Kind::All, &[][..]); n]).file();
+            assert_eq!(ffi::built(&file, 0, full(n), 0), Answer::over(leaves), "L({n}, {h})");
+            assert_eq!(ffi::built(&file, 0, full(n), leaves - 1), Answer::over(leaves), "L({n}, {h})");
+            assert_eq!(ffi::built(&file, 0, full(n), leaves), Answer::judged(full(n), leaves), "L({n}, {h})");
+        }
     }
 }
 
@@ -281,8 +287,9 @@ fn lending_the_gaps_of_s_answers_as_the_built_in_tree_does() {
             let model = random::model(&mut random, n, &[false, true, false, true], Density::Few);
             let lent = reference::lent(&model.file(), 0, full(n), gaps, gaps);
             assert_eq!(lent, ffi::lent(&model.file(), 0, full(n), gaps, gaps), "{model:?}");
-            assert_eq!(lent, ffi::built(&model.file(), 0, full(n)), "{model:?}");
-            assert_eq!(lent.count, (gaps.len() as u64 + 1).pow(2));
+            let leaves = (gaps.len() as u64 + 1).pow(2);
+            assert_eq!(lent, ffi::built(&model.file(), 0, full(n), leaves), "{model:?}");
+            assert_eq!(lent.count, leaves);
         }
     }
 }
@@ -292,12 +299,25 @@ fn ceilings_of_p() {
     assert_eq!(ffi::plain(&P, 0, 3, 3).number, 0);
     assert_eq!(ffi::plain(&P, 0, 3, 2), Answer::refused(10));
     assert_eq!(ffi::plain(&P, 0, 3, 0), Answer::refused(10));
+    // One least and one greatest level of two lines: both built-in trees have two leaves, whatever the bounds.
+    for p in ps() {
+        for (a, b, set) in [(0, 3, 3), (2, 2, 2)] {
+            for ceiling in [4, 5, u64::MAX] {
+                assert_eq!(ffi::built(&p, a, b, ceiling), Answer::judged(set, 4));
+            }
+            for ceiling in [3, 0] {
+                let refusal = Answer { number: 10, count: 4, ..Answer::default() };
+                assert_eq!(ffi::built(&p, a, b, ceiling), refusal);
+            }
+        }
+    }
 }
 
 #[test]
 fn bounds_that_do_not_enclose() {
     assert_eq!(ffi::plain(&P, 1, 2, 100), Answer::refused(9));
-    assert_eq!(ffi::built(&P, 1, 2), Answer::refused(9));
+    assert_eq!(ffi::built(&P, 1, 2, 4), Answer::refused(9));
+    assert_eq!(ffi::built(&P, 1, 2, 3), Answer::refused(9));
     assert_eq!(ffi::lent(&P, 1, 2, &[], &[]), Answer::refused(9));
 }
 

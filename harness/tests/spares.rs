@@ -49,18 +49,24 @@ fn chains_of_64_lines_are_met_to_their_end() {
     }
     for order in orders(&mut random) {
         let last = order[63];
-        // At one level, which decides all lines but the last one by themselves; that one is all of none, or any of none, and judged otherwise.
+        // At one level or eight of one sign, which decide all lines but the last one by themselves; that one is all of none, or any of none, and
+        // judged otherwise.
         for (greatest, kind, share) in [(false, Kind::All, 16), (true, Kind::Any, 984)] {
-            let mut model = chain(&order, &[greatest]);
-            for &line in &order[..63] {
-                model.decide_by_itself(line, greatest, false);
+            for d in [1, 8] {
+                let mut model = chain(&order, &vec![greatest; d]);
+                for &line in &order[..63] {
+                    model.decide_by_itself(line, greatest, false);
+                }
+                model.kinds[last] = kind;
+                assert_eq!(page_share(&random::file(&mut random, &model)), share, "{order:?}");
             }
-            model.kinds[last] = kind;
-            assert_eq!(page_share(&random::file(&mut random, &model)), share, "{order:?}");
         }
-        // At eight levels, where judging takes long, the last line alone.
-        let model = chain(&order, &random::alternating(8, false));
-        assert_eq!(page_share(&with_one_good_line(&model, last, true).file()), 16, "{order:?}");
+        // At seven levels of both signs, where judging takes long, the last line alone. One level is of the other sign than the rest: else the
+        // forecast would be over the page's ceiling.
+        for (least, greatest) in [(1, 6), (6, 1)] {
+            let model = chain(&order, &random::signs_of(&mut random, least, greatest));
+            assert_eq!(page_share(&with_one_good_line(&model, last, true).file()), 16, "{order:?}");
+        }
     }
 }
 
@@ -136,7 +142,7 @@ fn line_0_without_operands_is_met_alone() {
             let model = random::with_spares(&mut random, &Model::of(&signs, &[(kind, &[])]), spares);
             let file = random::file(&mut random, &model);
             assert_eq!(page_share(&file), share, "{model:?}");
-            let good = (ffi::built(&file, 0, full(1 + spares)).set >> 1).count_ones() as usize;
+            let good = (ffi::built(&file, 0, full(1 + spares), u64::MAX).set >> 1).count_ones() as usize;
             good_spares += good;
             other_spares += spares - good;
         }

@@ -207,8 +207,10 @@ fn votes_of_512_operands() {
         let set = if supports { u64::MAX } else { some };
         let greatest = file(&[true; 8], 255);
         let kept = if supports { some } else { 0 };
-        assert_eq!(ffi::built(&least, some, u64::MAX).set, set);
-        assert_eq!(ffi::built(&greatest, 0, some).set, kept);
+        // The built-in tree of height 8 for 64 lines has this many leaves, and the one of height 0 has one.
+        let leaves = Tree::built_in(64, 8).leaf_count();
+        assert_eq!(ffi::built(&least, some, u64::MAX, leaves), Answer::judged(set, leaves));
+        assert_eq!(ffi::built(&greatest, 0, some, leaves), Answer::judged(kept, leaves));
         assert_eq!(ffi::plain(&least, some, u64::MAX, 1 << 20).set, set);
         assert_eq!(ffi::plain(&greatest, 0, some, 1 << 20).set, kept);
     }
@@ -234,7 +236,7 @@ fn judge_all(model: &Model, a: u64, b: u64) {
     let leaves = (u.len() as u64 + 1) * (v.len() as u64 + 1);
     let file = model.file();
     assert_eq!(ffi::plain(&file, a, b, count), Answer::judged(set, count), "{a} {b} {model:?}");
-    assert_eq!(ffi::built(&file, a, b), Answer::judged(set, leaves), "{a} {b} {model:?}");
+    assert_eq!(ffi::built(&file, a, b, leaves), Answer::judged(set, leaves), "{a} {b} {model:?}");
     assert_eq!(ffi::lent(&file, a, b, u, v), Answer::judged(set, leaves), "{a} {b} {model:?}");
 }
 
@@ -297,7 +299,8 @@ fn a_vote_of_one_is_any_and_a_vote_of_all_is_all() {
         let v = random::tree(&mut random, model.greatest_levels(), 12);
         assert_eq!(ffi::query(&other, &xs), ffi::query(&file, &xs), "{xs:?} {model:?}");
         assert_eq!(ffi::plain(&other, a, b, 1000), ffi::plain(&file, a, b, 1000), "{a} {b} {model:?}");
-        assert_eq!(ffi::built(&other, a, b), ffi::built(&file, a, b), "{a} {b} {model:?}");
+        let built = [&other, &file].map(|file| ffi::built(file, a, b, u64::MAX));
+        assert_eq!(built[0], built[1], "{a} {b} {model:?}");
         let lent = [&other, &file].map(|file| ffi::lent(file, a, b, &u, &v));
         assert_eq!(lent[0], lent[1], "{a} {b} {u:?} {v:?} {model:?}");
         replaced += (voted != model) as usize;
@@ -350,7 +353,8 @@ fn a_misfit_is_looked_for_after_stray_lines_and_before_what_an_operation_adds() 
         assert_eq!(ffi::query(&file, &[]), misfit);
         assert_eq!(ffi::plain(&file, a, b, 100), misfit);
         assert_eq!(ffi::plain(&file, 0, full(n), 0), misfit);
-        assert_eq!(ffi::built(&file, a, b), misfit);
+        assert_eq!(ffi::built(&file, a, b, u64::MAX), misfit);
+        assert_eq!(ffi::built(&file, 0, full(n), 0), misfit);
         assert_eq!(ffi::lent(&file, a, b, &[0], &[0]), misfit);
         assert_eq!(ffi::lent(&file, 0, full(n), &[0], &[0]), misfit);
         assert_eq!(ffi::page(&file, &mut []), misfit);

@@ -1,7 +1,7 @@
 //! The engine's own algorithm: what the outer arguments decide is carried from level to level, so that each argument is looked at
 //! once, and only by the lines that are undecided and that the bounds leave open.
 
-use super::{answer, full_set, u64_at, Found, Lent, Model, ALL, MAX_LINES, VOTE};
+use super::{answer, answer_under, full_set, u64_at, Found, Lent, Model, ALL, MAX_LINES, VOTE};
 use crate::Answer;
 
 /// What the outer arguments decide: the query's set, if none of the undecided lines is decided any more.
@@ -282,11 +282,10 @@ pub fn plain(file: &[u8], a: u64, b: u64, ceiling: u64) -> Answer {
     }))
 }
 
-pub fn built(file: &[u8], a: u64, b: u64) -> Answer {
-    answer(
-        Model::admit(file, a, b)
-            .map(|m| built_level(m, m.levels, Pending::begin(m), &needs_at_first(m), a, b, m.lines, m.lines)),
-    )
+pub fn built(file: &[u8], a: u64, b: u64, ceiling: u64) -> Answer {
+    answer_under(ceiling, Model::admit(file, a, b), |m| {
+        built_level(m, m.levels, Pending::begin(m), &needs_at_first(m), a, b, m.lines, m.lines)
+    })
 }
 
 pub fn lent(file: &[u8], a: u64, b: u64, u: &[u8], v: &[u8]) -> Answer {

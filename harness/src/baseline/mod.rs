@@ -20,6 +20,24 @@ const SIGNS_AT: usize = 16;
 const ALL: u8 = 1;
 const VOTE: u8 = 2;
 
+/// The leaves of the built-in trees, by height and lines, in a table as the engine has them.
+static LEAVES: [[u64; MAX_LINES + 1]; MAX_LEVELS + 1] = leaf_table();
+
+const fn leaf_table() -> [[u64; MAX_LINES + 1]; MAX_LEVELS + 1] {
+    let mut leaves = [[1; MAX_LINES + 1]; MAX_LEVELS + 1];
+    let mut h = 1;
+    while h <= MAX_LEVELS {
+        leaves[h][0] = 0;
+        let mut n = 1;
+        while n <= MAX_LINES {
+            leaves[h][n] = leaves[h][n / 2] + leaves[h - 1][n] + leaves[h][(n - 1) / 2];
+            n += 1;
+        }
+        h += 1;
+    }
+    leaves
+}
+
 /// A checked file with its two counts.
 #[derive(Clone, Copy)]
 struct Model<'a> {
@@ -139,6 +157,12 @@ impl<'a> Model<'a> {
     fn least_levels(self) -> usize {
         (0..self.levels).filter(|&level| !self.is_greatest(level)).count()
     }
+
+    /// The leaves of both built-in trees, multiplied.
+    fn forecast(self) -> u64 {
+        let least = self.least_levels();
+        LEAVES[least][self.lines] * LEAVES[self.levels - least][self.lines]
+    }
 }
 
 /// The gaps of a tree with its height.
@@ -175,6 +199,15 @@ impl<'a> Lent<'a> {
 fn answer(found: Result<Found, u64>) -> Answer {
     match found {
         Ok(found) => Answer::judged(found.set, found.count),
+        Err(number) => Answer::refused(number),
+    }
+}
+
+/// The judgement of an admitted model by built-in trees. Refusal 10 where its forecast is over the ceiling.
+fn answer_under(ceiling: u64, admitted: Result<Model, u64>, judge: impl FnOnce(Model) -> Found) -> Answer {
+    match admitted.map(|m| (m, m.forecast())) {
+        Ok((_, forecast)) if forecast > ceiling => Answer::over(forecast),
+        Ok((m, _)) => answer(Ok(judge(m))),
         Err(number) => Answer::refused(number),
     }
 }

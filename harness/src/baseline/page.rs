@@ -2,7 +2,7 @@
 //! that a search over words meets.
 
 use super::{by_levels, full_set, u64_at, Model, MAX_LINES};
-use crate::Answer;
+use crate::{Answer, PROGRAM_CEILING};
 use std::cmp::Ordering;
 
 const ROW_PLACES: usize = 40;
@@ -77,7 +77,11 @@ pub fn page(file: &[u8], buffer: &mut [u8]) -> Answer {
         Err(number) => return Answer::refused(number),
     };
     let n = m.lines;
-    let set = by_levels::built(file, 0, full_set(n)).set;
+    let judged = by_levels::built(file, 0, full_set(n), PROGRAM_CEILING);
+    if judged.number != 0 {
+        return judged;
+    }
+    let set = judged.set;
     if buffer.len() < (ROW_PLACES + 1) * (n + 1) {
         return Answer::refused(12);
     }

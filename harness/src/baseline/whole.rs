@@ -1,6 +1,6 @@
 //! A whole query at each leaf, and the recursion of document 01.
 
-use super::{answer, u64_at, Found, Lent, Model, ALL, VOTE};
+use super::{answer, answer_under, u64_at, Found, Lent, Model, ALL, VOTE};
 use crate::Answer;
 
 impl Model<'_> {
@@ -175,8 +175,10 @@ pub fn plain(file: &[u8], a: u64, b: u64, ceiling: u64) -> Answer {
     }))
 }
 
-pub fn built(file: &[u8], a: u64, b: u64) -> Answer {
-    answer(Model::admit(file, a, b).map(|m| built_level(m, m.levels, &[0; 8], a, b, m.lines, m.lines)))
+pub fn built(file: &[u8], a: u64, b: u64, ceiling: u64) -> Answer {
+    answer_under(ceiling, Model::admit(file, a, b), |m| {
+        built_level(m, m.levels, &[0; 8], a, b, m.lines, m.lines)
+    })
 }
 
 pub fn lent(file: &[u8], a: u64, b: u64, u: &[u8], v: &[u8]) -> Answer {

@@ -2,6 +2,7 @@
 //! are visited one by one, trees are linked nodes, fixed points are taken by their definition or from a game, lines are met
 //! by paths.
 
+pub mod forecast;
 pub mod game;
 pub mod met;
 pub mod model;
@@ -13,9 +14,10 @@ pub mod restricted;
 pub mod tree;
 pub mod votes;
 
+pub use forecast::forecast;
 pub use game::good_lines;
 pub use met::met_lines;
 pub use model::{set_of, word_of, Kind, Model, Operand, Set};
-pub use operations::{built, join, judgeable, leaf_count, lent, plain, put, query, read, write};
-pub use page::{page, page_text, share, share_of};
+pub use operations::{built, join, judgeable, lent, plain, put, query, read, write};
+pub use page::{page, page_of, page_text, share, share_of};
 pub use tree::Tree;

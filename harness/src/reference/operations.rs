@@ -1,5 +1,6 @@
 //! The operations, with their refusals in document 01's order. Each has the signature of the engine's.
 
+use super::forecast::{built_in_trees, over};
 use super::model::{set_of, within, word_of, Model, Parts, Set};
 use super::plain::rounds;
 use super::restricted::restricted;
@@ -132,15 +133,17 @@ pub fn plain(file: &[u8], a: u64, b: u64, ceiling: u64) -> Answer {
     }
 }
 
-pub fn built(file: &[u8], a: u64, b: u64) -> Answer {
+pub fn built(file: &[u8], a: u64, b: u64, ceiling: u64) -> Answer {
     match judgeable(file, a, b) {
         Err(number) => Answer::refused(number),
-        Ok((model, lower, upper)) => {
-            let u = Tree::built_in(model.lines(), model.least_levels());
-            let v = Tree::built_in(model.lines(), model.greatest_levels());
-            let (set, count) = restricted(&model, &lower, &upper, &u, &v);
-            Answer::judged(word_of(&set), count)
-        }
+        Ok((model, lower, upper)) => match over(&model, ceiling) {
+            Some(refusal) => refusal,
+            None => {
+                let [u, v] = built_in_trees(&model);
+                let (set, count) = restricted(&model, &lower, &upper, &u, &v);
+                Answer::judged(word_of(&set), count)
+            }
+        },
     }
 }
 
@@ -158,14 +161,4 @@ pub fn lent(file: &[u8], a: u64, b: u64, u: &[u8], v: &[u8]) -> Answer {
     };
     let (set, count) = restricted(&model, &lower, &upper, &u, &v);
     Answer::judged(word_of(&set), count)
-}
-
-pub fn leaf_count(n: usize, h: usize) -> Answer {
-    if !(1..=64).contains(&n) {
-        return Answer::refused(2);
-    }
-    if h > 8 {
-        return Answer::refused(3);
-    }
-    Answer { count: Tree::built_in(n, h).leaf_count(), ..Answer::default() }
 }

@@ -1,10 +1,11 @@
 //! The share, and the bench page laid out by Rust's own formatting. The good lines are those that win the game.
 
+use super::forecast::over;
 use super::game::good_lines;
 use super::met::met_lines;
 use super::model::{Kind, Model};
 use super::operations::put;
-use crate::Answer;
+use crate::{Answer, PROGRAM_CEILING};
 
 /// 1000 × good lines / n, rounded: of all whole numbers that a share can be, the nearest, and the even one of two.
 pub fn share(good: usize, n: usize) -> u64 {
@@ -37,9 +38,18 @@ pub fn page_text(model: &Model) -> String {
     rows.iter().map(|row| format!("{row:<40}\n")).collect()
 }
 
+/// The page of a file, or the first of refusals 1 to 7, 14 and 10.
+pub fn page_of(file: &[u8]) -> Result<String, Answer> {
+    let model = Model::from_file(file).map_err(Answer::refused)?;
+    match over(&model, PROGRAM_CEILING) {
+        Some(refusal) => Err(refusal),
+        None => Ok(page_text(&model)),
+    }
+}
+
 pub fn page(file: &[u8], buffer: &mut [u8]) -> Answer {
-    match Model::from_file(file) {
-        Ok(model) => put(page_text(&model).as_bytes(), buffer),
-        Err(number) => Answer::refused(number),
+    match page_of(file) {
+        Ok(text) => put(text.as_bytes(), buffer),
+        Err(refusal) => refusal,
     }
 }
