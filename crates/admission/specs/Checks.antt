@@ -18,7 +18,7 @@ use Rattle.routes.specs.Routes.{leastLevels, greatestLevels}
 abbrev pub misplaced : ℕ → ℕ → ℕ → Bool
 misplaced n a b = strays n a || (strays n b || not (isWithin a b))
 
--- 1 to 7, then 9: what every judging turns down
+-- 1 to 7 and 14, then 9: what every judging turns down
 abbrev pub boundChecks : List ℕ → ℕ → ℕ → List Check
 boundChecks file a b = fileChecks file ++ (9 if misplaced (linesIn file) a b ∷ [])
 

@@ -26,7 +26,7 @@ fn bounds_misplaced(n: usize, a: u64, b: u64) -> bool
     !sets::within(a, b)
 }
 
-// Refusals 1 to 7 and 9, which all judging makes, or the counts of the file.
+// Refusals 1 to 7, 14 and 9, which all judging makes, or the counts of the file.
 pub fn admit(file: &[u8], a: u64, b: u64) -> Reading
     ensures { λ r. ⌜ readingAnswer r ≡ unless (boundNumber (now (file .entry)) a b) (sized (linesIn (now (file .entry))) (levelsIn (now (file .entry)))) ⌝ }
 {
