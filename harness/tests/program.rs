@@ -96,7 +96,7 @@ fn every_sample_model_is_judged_and_has_its_page() {
             seen += 1;
         }
     }
-    assert_eq!(seen, 11);
+    assert_eq!(seen, 12);
 }
 
 #[test]
@@ -106,6 +106,10 @@ fn the_sample_models_show_what_their_note_says() {
     assert_eq!(text("models/q.model"), "plain 0000000000000000 3\ntree 0000000000000000 4\nshare 0\n");
     assert_eq!(text("models/one-line.model"), "plain 0000000000000000 1\ntree 0000000000000000 1\nshare 0\n");
     assert!(text("models/incident.model").contains("tree 0000000000000002 9\nshare 0\n"));
+    assert_eq!(
+        text("models/chains.model"),
+        "plain refused 10\ntree 00003fe00ffc01ff 731025\nshare 1000\n"
+    );
     assert_eq!(text("models/largest.model"), "plain refused 10\ntree refused 10 6996025\nshare none\n");
     assert_eq!(paged(&bytes_of("models/largest.model")), "refused 10 6996025\n");
     assert_eq!(
@@ -324,6 +328,7 @@ fn a_plain_run_over_the_ceiling_is_cut_off_and_the_trees_judge_all_the_same() {
         let (set, forecast) = (word_of(&good_lines(&model)), forecast(&model));
         let plain = if plainly { format!("{set:016x} 1000000") } else { "refused 10".to_string() };
         assert_eq!(text, format!("plain {plain}\ntree {set:016x} {forecast}\nshare 1000\n"));
+        assert_eq!(model.old_file() == bytes_of("models/chains.model"), !plainly);
     }
 }
 
