@@ -106,10 +106,7 @@ fn the_sample_models_show_what_their_note_says() {
     assert_eq!(text("models/q.model"), "plain 0000000000000000 3\ntree 0000000000000000 4\nshare 0\n");
     assert_eq!(text("models/one-line.model"), "plain 0000000000000000 1\ntree 0000000000000000 1\nshare 0\n");
     assert!(text("models/incident.model").contains("tree 0000000000000002 9\nshare 0\n"));
-    assert_eq!(
-        text("models/chains.model"),
-        "plain refused 10\ntree 00003fe00ffc01ff 731025\nshare 1000\n"
-    );
+    assert_eq!(text("models/chains.model"), "plain refused 10\ntree 00003fe00ffc01ff 731025\nshare 1000\n");
     assert_eq!(text("models/largest.model"), "plain refused 10\ntree refused 10 6996025\nshare none\n");
     assert_eq!(paged(&bytes_of("models/largest.model")), "refused 10 6996025\n");
     assert_eq!(
