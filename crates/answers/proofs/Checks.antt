@@ -7,7 +7,7 @@ use mathlib.Core.Path.{_≡_, refl, ap}
 use Prim.Native.Nat.{ℕ, zero, suc, _≤_, _<_}
 use native.Mathlib.Omega.{arith}
 use lib.Dec.{eqb, ltb, lit<}
-use borrow.Author.Tests.{ltb-true, ltb-false, le-ltb, eqb-true, eqb-false, eq-eqb, ne-eqb, not-true, not-false}
+use borrow.Author.Tests.{ltb-false, le-ltb, eqb-true, eqb-false, eq-eqb, ne-eqb, not-true, not-false}
 use Rattle.answers.specs.Answer.{Answer, refusal, numberOf}
 use Rattle.answers.specs.Check.{Check, firstOf, unless, outside}
 use Rattle.answers.specs.declared.Refusal.{Refusal}
@@ -28,10 +28,15 @@ pub passes-append : (cs ds : List Check) → Passes cs → Passes ds → Passes 
 passes-append [] ds h k = k
 passes-append (c ∷ cs) ds h k = (h .0, passes-append cs ds (h .1) k)
 
--- none of their numbers is 0
-abbrev pub numbered : List Check → Bool
-numbered [] = true
-numbered (c ∷ cs) = ltb 0 (c .number) && numbered cs
+-- none of their numbers is x
+abbrev pub without : ℕ → List Check → Bool
+without x [] = true
+without x (c ∷ cs) = not (eqb (c .number) x) && without x cs
+
+other-number : {x : ℕ} (c : Check) (cs : List Check) → without x (c ∷ cs) ≡ true → (c .number ≡ x → ⊥) × (without x cs ≡ true)
+other-number {x} c cs p =
+    let both = and-eq-true-iff (not (eqb (c .number) x)) (without x cs) .0 p in
+    (eqb-false (c .number) x (not-true (eqb (c .number) x) (both .0)), both .1)
 
 pub first-after : (cs ds : List Check) → Passes cs → firstOf (cs ++ ds) ≡ firstOf ds
 first-after [] ds h = refl
@@ -50,35 +55,25 @@ first-before (c ∷ cs) ds h = at (c .applies) (first-before cs ds) h
     at true later h = refl
     at false later h = later h
 
-pub none-first : (cs : List Check) → numbered cs ≡ true → firstOf cs ≡ 0 → Passes cs
+pub none-first : (cs : List Check) → without 0 cs ≡ true → firstOf cs ≡ 0 → Passes cs
 none-first [] p h = tt
-none-first (c ∷ cs) p h = at (c .applies) (none-first cs (both .1)) h
+none-first (c ∷ cs) p h = at (c .applies) (none-first cs (other-number c cs p .1)) h
   where
-    both : (ltb 0 (c .number) ≡ true) × (numbered cs ≡ true)
-    both = and-eq-true-iff (ltb 0 (c .number)) (numbered cs) .0 p
-
     at : (b : Bool) → (firstOf cs ≡ 0 → Passes cs) → cond b (c .number) (firstOf cs) ≡ 0 → (b ≡ false) × Passes cs
-    at true later h = absurd (omega (arith, ltb-true 0 (c .number) (both .0)))
+    at true later h = absurd (other-number c cs p .0 h)
     at false later h = (refl, later h)
 
--- none of their numbers is x, so that x is not the first that applies
-abbrev pub without : ℕ → List Check → Bool
-without x [] = true
-without x (c ∷ cs) = not (eqb (c .number) x) && without x cs
-
+-- a number that none of them has is not the first that applies
 pub first-other : (x : ℕ) (cs : List Check) → without x cs ≡ true → 0 < x → firstOf cs ≡ x → ⊥
 first-other x [] p some h = omega arith
-first-other x (c ∷ cs) p some h = at (c .applies) (first-other x cs (both .1) some) h
+first-other x (c ∷ cs) p some h = at (c .applies) (first-other x cs (other-number c cs p .1) some) h
   where
-    both : (not (eqb (c .number) x) ≡ true) × (without x cs ≡ true)
-    both = and-eq-true-iff (not (eqb (c .number) x)) (without x cs) .0 p
-
     at : (b : Bool) → (firstOf cs ≡ x → ⊥) → cond b (c .number) (firstOf cs) ≡ x → ⊥
-    at true later h = eqb-false (c .number) x (not-true (eqb (c .number) x) (both .0)) h
+    at true later h = other-number c cs p .0 h
     at false later h = later h
 
 -- checks whose number is 0 are passed over
-pub after-none : (cs ds : List Check) → numbered cs ≡ true → firstOf cs ≡ 0 → firstOf (cs ++ ds) ≡ firstOf ds
+pub after-none : (cs ds : List Check) → without 0 cs ≡ true → firstOf cs ≡ 0 → firstOf (cs ++ ds) ≡ firstOf ds
 after-none cs ds p h = first-after cs ds (none-first cs p h)
 
 -- checks behind them of which none applies change nothing

@@ -1,8 +1,8 @@
 -- The page of a file that is accepted has n + 1 rows of 41 bytes, and one that is judged shows the nested fixpoint. With room for the longest page, the page
 -- is turned down as judging is.
 -- Assumes nothing.
-use mathlib.Core.List.{List}
-use mathlib.Core.Path.{_≡_, refl, _∙_, ap}
+use mathlib.Core.List.{List, _++_}
+use mathlib.Core.Path.{_≡_, refl, sym, _∙_, ap}
 use Prim.Native.Nat.{ℕ, zero, suc, _+_, _*_, _≤_, _<_}
 use native.Mathlib.Omega.{arith}
 use borrow.Author.Tests.{le-ltb}
@@ -11,12 +11,13 @@ use Rattle.answers.specs.Check.{firstOf}
 use Rattle.answers.proofs.Checks.{first-before, after-none}
 use Rattle.sets.specs.Set.{full}
 use Rattle.model.specs.File.{linesIn, decode}
-use Rattle.checker.specs.Checks.{fileNumber}
+use Rattle.checker.specs.Checks.{fileChecks, fileNumber}
 use Rattle.checker.proofs.Accepted.{accepted}
-use Rattle.admission.proofs.Admitted.{file-passed}
+use Rattle.admission.specs.Checks.{boundChecks, boundNumber}
+use Rattle.admission.proofs.Admitted.{file-passed, never-misplaced}
 use Rattle.routes.specs.Routes.{nestedSet}
 use Rattle.routes.proofs.Promises.{whole-range, built-nested}
-use Rattle.solver.specs.Checks.{builtChecks, builtNumber, programCeiling}
+use Rattle.solver.specs.Checks.{forecastChecks, builtChecks, builtNumber, programCeiling}
 use Rattle.solver.proofs.Forecast.{both-passed}
 use Rattle.page_layout.specs.Page.{page}
 use Rattle.page_layout.proofs.Pages.{page-length}
@@ -25,6 +26,19 @@ use Rattle.bench_page.specs.Says.{shownAnswer, pageOf, roomChecks, pageN
 -- the number of the judgement that is shown
 abbrev pub shownNumber : List ℕ → ℕ
 shownNumber file = builtNumber file 0 (full (linesIn file)) programCeiling
+
+-- from no line to all lines 9 never applies: what is turned down is the file, and then its forecast
+pub shown-checks : (file : List ℕ) → shownNumber file ≡ firstOf (fileChecks file ++ forecastChecks file programCeiling)
+unfolding builtNumber boundNumber fileNumber
+shown-checks file = at (fileNumber file) refl
+  where
+    at : (e : ℕ) → fileNumber file ≡ e → shownNumber file ≡ firstOf (fileChecks file ++ forecastChecks file programCeiling)
+    at zero h =
+        after-none (boundChecks file 0 (full (linesIn file))) (forecastChecks file programCeiling) refl (never-misplaced file ∙ h)
+        ∙ sym (after-none (fileChecks file) (forecastChecks file programCeiling) refl h)
+    at (suc e) h =
+        first-before (boundChecks file 0 (full (linesIn file))) (forecastChecks file programCeiling) (omega (arith, never-misplaced file))
+        ∙ never-misplaced file ∙ sym (first-before (fileChecks file) (forecastChecks file programCeiling) (omega arith))
 
 -- where it is judged, the file is accepted
 judged-file : (file : List ℕ) → shownNumber file ≡ 0 → fileNumber file ≡ 0
