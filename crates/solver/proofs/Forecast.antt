@@ -11,16 +11,15 @@ use borrow.Author.Tests.{lt-ltb, le-ltb, ltb-false}
 use lib.Dec.{ltb}
 use Rattle.answers.proofs.Checks.{passes-both, passes-none, none-first}
 use Rattle.trees.specs.Built.{leafCount}
-use Rattle.fixpoint.proofs.Levels.{levels-sum}
-use Rattle.system.specs.System.{System, sign}
+use Rattle.system.specs.System.{System}
 use Rattle.model.specs.File.{decode}
 use Rattle.model.proofs.Refusals.{none-over}
 use Rattle.checker.proofs.Accepted.{accepted}
 use Rattle.routes.specs.Routes.{leastLevels, greatestLevels, builtLeast, builtGreatest, restrictedCount}
 use Rattle.routes.proofs.Promises.{built-product}
-use Rattle.routes.proofs.QueryBound.{leaf-few, product-few}
 use Rattle.admission.specs.Checks.{boundChecks, boundNumber, forecast}
 use Rattle.admission.proofs.Admitted.{file-passed, after-bounds}
+use Rattle.admission.proofs.FewQueries.{forecast-few}
 use Rattle.solver.specs.Checks.{forecastChecks, builtChecks, builtNumber}
 use Rattle.solver.specs.Says.{judgedAnswer, BuiltSays}
 use Rattle.solver.specs.declared.Judged.{Judged}
@@ -59,9 +58,7 @@ module _ (file : List ℕ) (a b : ℕ) (admitted : boundNumber file a b ≡ 0) w
   unfolding decode
   few-counts =
       let header = accepted file (file-passed file a b admitted) .header in
-      let s = decode file in
-      rw (← forecast-counts) (product-few (leastLevels s) (greatestLevels s) (leaf-few (leastLevels s) (s .lines) (header .lines-most)) (leaf-few (greatestLevels s) (s .lines) (header .lines-most))
-      (omega (arith, levels-sum (sign s) (s .levels), header .levels-most)))
+      rw (← forecast-counts) (forecast-few (decode file) (header .lines-most) (header .levels-most))
 
   pub high-ceiling : (ceiling : ℕ) → 64 ^ 8 ≤ ceiling → builtNumber file a b ceiling ≡ 0
   high-ceiling ceiling h = over-exactly ceiling ∙ rw (le-ltb ceiling (builtCount (decode file)) (le-trans few-counts h))
@@ -73,7 +70,7 @@ both-passed file a b ceiling none =
     let both = passes-both (boundChecks file a b) (forecastChecks file ceiling) (none-first (builtChecks file a b ceiling) refl none) in
     (passes-none (boundChecks file a b) (both .0), ltb-false ceiling (forecast (decode file)) (both .1 .0))
 
--- so an accepted count is
+-- so an accepted count is within it
 pub count-within : (file : List ℕ) (a b ceiling : ℕ) (r : Judged) → BuiltSays file a b ceiling r → judgedAnswer r .number ≡ 0 → judgedAnswer r .count ≤ ceiling
 count-within file a b ceiling r says ok =
     let none : builtNumber file a b ceiling ≡ 0 = none-over _ _ _ _ (says .answer) refl ok in

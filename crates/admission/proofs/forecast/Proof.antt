@@ -9,7 +9,7 @@ use Rattle.fixpoint.proofs.Levels.{levels-sum}
 use Rattle.system.specs.System.{System, sign}
 use Rattle.model.specs.Held.{systemIn}
 use Rattle.routes.specs.Routes.{leastLevels, greatestLevels}
-use Rattle.routes.proofs.QueryBound.{leaf-few, product-few}
+use Rattle.admission.proofs.FewQueries.{forecast-few}
 use borrow.Author.Needs.{needs}
 use Rattle.admission.proofs.forecast.Statement.{statement}
 use Rattle.admission.proofs.forecast.Tie as tie
@@ -56,12 +56,8 @@ leaves c =
 
 mul-result : tie.Need-mul-result
 mul-result c =
-    let start = c .before .before .before .before .before in
-    let s = system (c .before .before) in
-    let held = start .pre .laid-out in
-    let few = product-few (leastLevels s) (greatestLevels s) (leaf-few (leastLevels s) (start .args .m .lines) (held .few-lines)) (leaf-few (greatestLevels s) (start .args .m .lines) (held .few-lines))
-    (omega (arith, levels-sum (sign s) (start .args .m .levels), held .few-levels)) in
-    record { fits = rw (leaves c .0, leaves c .1) (omega (arith, few)) }
+    let held = c .before .before .before .before .before .pre .laid-out in
+    record { fits = rw (leaves c .0, leaves c .1) (omega (arith, forecast-few (system (c .before .before)) (held .few-lines) (held .few-levels))) }
 
 returns : tie.Need-returns
 returns c = ap₂ _*_ (leaves c .0) (leaves c .1)
