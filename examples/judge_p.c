@@ -2,20 +2,18 @@
  *
  *   rt staticlib solver_c
  *   cc -std=c99 -I include examples/judge_p.c target/staticlib/libsolver_c.a -o target/judge_p && target/judge_p
+ *   c++ -std=c++11 -I include -x c++ examples/judge_p.c -x none target/staticlib/libsolver_c.a -o target/judge_p && target/judge_p
  */
 #include <inttypes.h>
 #include <stdio.h>
 
 #include "solver.h"
 
-/* The six words of an answer, in their order. */
-enum { NUMBER, SET, COUNT, LENGTH, LINES, LEVELS, WORDS };
-
-static void show_judged(const char *what, const uint64_t answer[WORDS]) {
-    if (answer[NUMBER] != 0) {
-        printf("%s: refused %" PRIu64 ", count %" PRIu64 "\n", what, answer[NUMBER], answer[COUNT]);
+static void show_judged(const char *what, const uint64_t answer[SOLVER_WORDS]) {
+    if (answer[SOLVER_NUMBER] != SOLVER_ACCEPTED) {
+        printf("%s: refused %" PRIu64 ", count %" PRIu64 "\n", what, answer[SOLVER_NUMBER], answer[SOLVER_COUNT]);
     } else {
-        printf("%s: set %" PRIu64 ", count %" PRIu64 "\n", what, answer[SET], answer[COUNT]);
+        printf("%s: set %" PRIu64 ", count %" PRIu64 "\n", what, answer[SOLVER_SET], answer[SOLVER_COUNT]);
     }
 }
 
@@ -25,28 +23,31 @@ int main(void) {
     const uint8_t kinds[2] = {1, 0};
     const uint8_t thresholds[2] = {0, 0}; /* none of the lines is a vote */
     const uint64_t words[4] = {1 << 1, 0, 0, 1 << 0};
-    uint8_t file[64];
-    uint64_t answer[WORDS];
+    uint8_t file[SOLVER_MAX_FILE];
+    uint64_t answer[SOLVER_WORDS];
 
     solver_write(2, 2, signs, 2, kinds, 2, thresholds, 2, words, 4, file, sizeof file, answer);
-    if (answer[NUMBER] != 0) {
-        printf("written: refused %" PRIu64 "\n", answer[NUMBER]);
+    if (answer[SOLVER_NUMBER] != SOLVER_ACCEPTED) {
+        printf("written: refused %" PRIu64 "\n", answer[SOLVER_NUMBER]);
         return 1;
     }
-    size_t length = answer[LENGTH];
+    size_t length = answer[SOLVER_LENGTH];
     printf("written: %zu bytes\n", length);
 
-    uint8_t signs_read[8];
-    uint8_t kinds_read[64];
-    uint8_t thresholds_read[64];
-    uint64_t words_read[512];
-    solver_read(file, length, signs_read, 8, kinds_read, 64, thresholds_read, 64, words_read, 512, answer);
-    printf("read: %" PRIu64 " lines, %" PRIu64 " levels, line 0 selects %" PRIu64 " at level 1\n", answer[LINES], answer[LEVELS], words_read[0]);
+    /* Slices that are long enough for every file. */
+    uint8_t signs_read[SOLVER_MAX_LEVELS];
+    uint8_t kinds_read[SOLVER_MAX_LINES];
+    uint8_t thresholds_read[SOLVER_MAX_LINES];
+    uint64_t words_read[SOLVER_MAX_READ_WORDS];
+    solver_read(file, length, signs_read, SOLVER_MAX_LEVELS, kinds_read, SOLVER_MAX_LINES, thresholds_read, SOLVER_MAX_LINES,
+                words_read, SOLVER_MAX_READ_WORDS, answer);
+    printf("read: %" PRIu64 " lines, %" PRIu64 " levels, line 0 selects %" PRIu64 " at level 1\n", answer[SOLVER_LINES],
+           answer[SOLVER_LEVELS], words_read[0]);
 
     /* No line at level 1, both at level 2. */
     const uint64_t arguments[2] = {0, 3};
     solver_query(file, length, arguments, 2, answer);
-    printf("one query: set %" PRIu64 "\n", answer[SET]);
+    printf("one query: set %" PRIu64 "\n", answer[SOLVER_SET]);
 
     /* From no line to both, which is 3. */
     solver_plain(file, length, 0, 3, 1000, answer);
@@ -66,16 +67,16 @@ int main(void) {
     show_judged("by trees of two leaves and of one", answer);
 
     /* The bench page of two lines: three rows of 41 bytes. */
-    uint8_t page[3 * 41];
+    uint8_t page[SOLVER_MAX_PAGE];
     solver_page(file, length, page, sizeof page, answer);
-    printf("page: %" PRIu64 " bytes\n", answer[LENGTH]);
-    fwrite(page, 1, answer[LENGTH], stdout);
+    printf("page: %" PRIu64 " bytes\n", answer[SOLVER_LENGTH]);
+    fwrite(page, 1, answer[SOLVER_LENGTH], stdout);
 
     /* Two cabinets of this model in one: four lines, of which all are 15. */
-    uint8_t joined[90];
+    uint8_t joined[SOLVER_MAX_FILE];
     solver_join(file, length, file, length, joined, sizeof joined, answer);
-    printf("joined: %" PRIu64 " bytes\n", answer[LENGTH]);
-    solver_built(joined, sizeof joined, 0, 15, 1000, answer);
+    printf("joined: %" PRIu64 " bytes\n", answer[SOLVER_LENGTH]);
+    solver_built(joined, answer[SOLVER_LENGTH], 0, 15, 1000, answer);
     show_judged("joined, by built-in trees", answer);
     return 0;
 }

@@ -1,0 +1,119 @@
+"""The operations of include/solver.h for Python, by the shared library that docs/MANUAL.md says how to make.
+
+>>> from solver import ALL, ANY, GREATEST, LEAST, Model, built, lines, write
+>>> p = write(Model(signs=[LEAST, GREATEST], kinds=[ALL, ANY], thresholds=[0, 0], words=[2, 0, 0, 1]))
+>>> judged = built(p)
+>>> lines(judged.set), judged.count
+([0, 1], 4)
+
+As a script, `python3 examples/solver.py FILE..`, it judges each file so and prints a row: its good lines and the count,
+or why it is refused. It ends with status 1 if one is refused, and with 2 if one cannot be read or none is given.
+"""
+import ctypes
+import os
+import sys
+from array import array
+from pathlib import Path
+from typing import Any, List, NamedTuple, Optional, Sequence, Tuple
+
+LEAST, GREATEST = 0, 1
+ANY, ALL, VOTE = 0, 1, 2
+MAX_LINES, MAX_LEVELS, MAX_READ_WORDS, MAX_FILE, MAX_PAGE = 64, 8, 512, 4248, 2665
+NUMBER, SET, COUNT, LENGTH, LINES, LEVELS = range(6)  # the words of an answer
+Judged = NamedTuple("Judged", [("set", int), ("count", int)])  # the good lines, bit i for line i, and the queries made
+_ROOT = Path(__file__).resolve().parent.parent
+_PATH = os.path.abspath(os.environ.get("SOLVER_LIBRARY") or _ROOT / "target/libsolver.so")
+_LIBRARY = ctypes.CDLL(_PATH) if os.path.exists(_PATH) else None
+_ROWS = [row.split("\t") for row in (_ROOT / "include/refusals.txt").read_text().splitlines() if row[0] != "#"]
+_WORDS = {(int(row[0]), operation): f"{row[2]}; {row[3]}" for row in _ROWS for operation in row[1].split(", ")}
+
+
+class Refused(Exception):
+    """The operation is named as in include/refusals.txt; the count is the forecast where there is one, and else 0."""
+    def __init__(self, number: int, operation: str, count: int = 0) -> None:
+        self.number, self.operation, self.count = self.args = number, operation, count
+
+    def __str__(self) -> str:
+        words = _WORDS.get((self.number, self.operation)) or _WORDS[self.number, "whatever takes a file"]
+        return f"refused {self.number}{f' {self.count}' if self.count else ''}: {words}"
+
+
+class Model(NamedTuple):
+    signs: Sequence[int]
+    kinds: Sequence[int]
+    thresholds: Sequence[int]
+    words: Sequence[int]  # line 0 first, and within a line level 1 first
+    n = property(lambda self: len(self.kinds))
+    d = property(lambda self: len(self.signs))
+
+
+def _call(operation: str, function: str, codes: str, *values: Any) -> Tuple[array, List[Any]]:
+    """Lends bytes (code B), words (Q) and numbers (n) to a function; gives its answer's words and what it was lent."""
+    if _LIBRARY is None:
+        raise FileNotFoundError(f"{_PATH} is missing; make it by: rt staticlib solver_c && cc -shared -Wl,--whole-archive"
+                                " target/staticlib/libsolver_c.a -Wl,--no-whole-archive -o target/libsolver.so")
+    # Arrays turn down numbers that ctypes would cut. Each has one entry more than is lent, so that none is null.
+    lent = [value if code == "n" else array(code, [*value, 0]) for code, value in zip(codes, values)]
+    answer, arguments = array("Q", bytes(8 * 6)), array("Q")
+    for item in lent:
+        if item is None:  # all lines of the file, which is lent first
+            item = 2 ** min(int.from_bytes(lent[0][:2], "little"), MAX_LINES) - 1
+        arguments.extend((item.buffer_info()[0], len(item) - 1) if isinstance(item, array) else (item,))
+    getattr(_LIBRARY, function)(*map(ctypes.c_uint64, arguments), ctypes.c_void_p(answer.buffer_info()[0]))
+    if answer[NUMBER]:
+        raise Refused(answer[NUMBER], operation, answer[COUNT])
+    return answer, lent
+
+
+def read(file: bytes) -> Model:
+    slices = bytes(MAX_LEVELS), bytes(MAX_LINES), bytes(MAX_LINES), [0] * MAX_READ_WORDS
+    answer, (_, *parts) = _call("reading", "solver_read", "BBBBQ", file, *slices)
+    n, d = answer[LINES], answer[LEVELS]
+    return Model(*(part[:length].tolist() for part, length in zip(parts, (d, n, n, n * d))))
+
+
+def write(model: Model) -> bytes:
+    answer, lent = _call("writing", "solver_write", "nnBBBQB", model.n, model.d, *model, bytes(MAX_FILE))
+    return lent[-1][:answer[LENGTH]].tobytes()
+
+
+def query(file: bytes, sets: Sequence[int]) -> int:
+    return _call("one query", "solver_query", "BQ", file, sets)[0][SET]
+
+
+def plain(file: bytes, a: int = 0, b: Optional[int] = None, ceiling: int = 1_000_000) -> Judged:
+    return Judged(*_call("judging plainly", "solver_plain", "Bnnn", file, a, b, ceiling)[0][SET:LENGTH])
+
+
+def built(file: bytes, a: int = 0, b: Optional[int] = None, ceiling: int = 1_000_000) -> Judged:
+    return Judged(*_call("judging by built-in trees", "solver_built", "Bnnn", file, a, b, ceiling)[0][SET:LENGTH])
+
+
+def lent(file: bytes, a: int, b: Optional[int], u: Sequence[int], v: Sequence[int]) -> Judged:
+    return Judged(*_call("judging by lent trees", "solver_lent", "BnnBB", file, a, b, u, v)[0][SET:LENGTH])
+
+
+def page(file: bytes) -> str:
+    answer, lent = _call("making the page", "solver_page", "BB", file, bytes(MAX_PAGE))
+    return lent[-1][:answer[LENGTH]].tobytes().decode()
+
+
+def join(first: bytes, second: bytes) -> bytes:
+    answer, lent = _call("joining", "solver_join", "BBB", first, second, bytes(MAX_FILE))
+    return lent[-1][:answer[LENGTH]].tobytes()
+
+
+def lines(set: int) -> List[int]:
+    return [line for line in range(MAX_LINES) if set >> line & 1]
+
+
+if __name__ == "__main__":
+    status = 0 if sys.argv[1:] else 2
+    for name in sys.argv[1:]:
+        try:
+            judged = built(Path(name).read_bytes())
+            print(f"{name}: good lines {lines(judged.set)}, count {judged.count}")
+        except (Refused, OSError) as error:
+            print(f"{name}: {error}")
+            status = max(status, 1 if isinstance(error, Refused) else 2)
+    sys.exit(status)
