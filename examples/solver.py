@@ -6,36 +6,36 @@
 >>> lines(judged.set), judged.count
 ([0, 1], 4)
 
-As a script, `python3 examples/solver.py FILE..`, it judges each file so and prints a row: its good lines and the count,
-or why it is refused. It ends with status 1 if one is refused, and with 2 if one cannot be read or none is given.
+As a script it judges the files that it is given, each in a row; status 1: one is refused, 2: one cannot be read.
 """
 import ctypes
 import os
 import sys
 from array import array
 from pathlib import Path
-from typing import Any, List, NamedTuple, Optional, Sequence, Tuple
+from typing import Any, List, NamedTuple, Optional, Sequence
 
-LEAST, GREATEST = 0, 1
-ANY, ALL, VOTE = 0, 1, 2
+LEAST, GREATEST, ANY, ALL, VOTE = 0, 1, 0, 1, 2  # signs, and kinds
 MAX_LINES, MAX_LEVELS, MAX_READ_WORDS, MAX_FILE, MAX_PAGE = 64, 8, 512, 4248, 2665
-NUMBER, SET, COUNT, LENGTH, LINES, LEVELS = range(6)  # the words of an answer
 Judged = NamedTuple("Judged", [("set", int), ("count", int)])  # the good lines, bit i for line i, and the queries made
+_Answer = NamedTuple("_Answer", [(name, Any) for name in "number set count length lines levels lent made".split()])
 _ROOT = Path(__file__).resolve().parent.parent
 _PATH = os.path.abspath(os.environ.get("SOLVER_LIBRARY") or _ROOT / "target/libsolver.so")
+_MAKE = "cc -shared -Wl,--whole-archive target/staticlib/libsolver_c.a -Wl,--no-whole-archive -o target/libsolver.so"
 _LIBRARY = ctypes.CDLL(_PATH) if os.path.exists(_PATH) else None
 _ROWS = [row.split("\t") for row in (_ROOT / "include/refusals.txt").read_text().splitlines() if row[0] != "#"]
-_WORDS = {(int(row[0]), operation): f"{row[2]}; {row[3]}" for row in _ROWS for operation in row[1].split(", ")}
+_WORDS = {(int(row[0]), operation): row[2:] for row in _ROWS for operation in row[1].split(", ")}
 
 
 class Refused(Exception):
-    """The operation is named as in include/refusals.txt; the count is the forecast where there is one, and else 0."""
+    """The operation has its name of include/refusals.txt; the count is the forecast where there is one, and else 0."""
     def __init__(self, number: int, operation: str, count: int = 0) -> None:
         self.number, self.operation, self.count = self.args = number, operation, count
 
     def __str__(self) -> str:
-        words = _WORDS.get((self.number, self.operation)) or _WORDS[self.number, "whatever takes a file"]
-        return f"refused {self.number}{f' {self.count}' if self.count else ''}: {words}"
+        why, what_to_do = _WORDS.get((self.number, self.operation)) or _WORDS[self.number, "whatever takes a file"]
+        forecast = f" ({self.count} are forecast)" if self.count else ""
+        return f"refused {self.number}: {why}{forecast}; {what_to_do}"
 
 
 class Model(NamedTuple):
@@ -47,60 +47,58 @@ class Model(NamedTuple):
     d = property(lambda self: len(self.signs))
 
 
-def _call(operation: str, function: str, codes: str, *values: Any) -> Tuple[array, List[Any]]:
-    """Lends bytes (code B), words (Q) and numbers (n) to a function; gives its answer's words and what it was lent."""
+def _call(operation: str, function: str, codes: str, *values: Any) -> _Answer:
+    """Lends bytes (code B), words (Q) and numbers (n) to a function; with its answer stands what was lent and made."""
     if _LIBRARY is None:
-        raise FileNotFoundError(f"{_PATH} is missing; make it by: rt staticlib solver_c && cc -shared -Wl,--whole-archive"
-                                " target/staticlib/libsolver_c.a -Wl,--no-whole-archive -o target/libsolver.so")
-    # Arrays turn down numbers that ctypes would cut. Each has one entry more than is lent, so that none is null.
+        raise FileNotFoundError(f"{_PATH} is missing; make it by: rt staticlib solver_c && {_MAKE}")
+    # An array turns down numbers that ctypes would cut. It has an entry more than is lent, so that no pointer is null.
     lent = [value if code == "n" else array(code, [*value, 0]) for code, value in zip(codes, values)]
-    answer, arguments = array("Q", bytes(8 * 6)), array("Q")
+    words, arguments = array("Q", bytes(8 * 6)), array("Q")
     for item in lent:
         if item is None:  # all lines of the file, which is lent first
             item = 2 ** min(int.from_bytes(lent[0][:2], "little"), MAX_LINES) - 1
         arguments.extend((item.buffer_info()[0], len(item) - 1) if isinstance(item, array) else (item,))
-    getattr(_LIBRARY, function)(*map(ctypes.c_uint64, arguments), ctypes.c_void_p(answer.buffer_info()[0]))
-    if answer[NUMBER]:
-        raise Refused(answer[NUMBER], operation, answer[COUNT])
-    return answer, lent
+    getattr(_LIBRARY, function)(*map(ctypes.c_uint64, arguments), ctypes.c_void_p(words.buffer_info()[0]))
+    number, _, count, length, _, _ = words
+    if number:
+        raise Refused(number, operation, count)
+    return _Answer(*words, lent, lent[-1][:length].tobytes() if length else b"")
 
 
 def read(file: bytes) -> Model:
     slices = bytes(MAX_LEVELS), bytes(MAX_LINES), bytes(MAX_LINES), [0] * MAX_READ_WORDS
-    answer, (_, *parts) = _call("reading", "solver_read", "BBBBQ", file, *slices)
-    n, d = answer[LINES], answer[LEVELS]
-    return Model(*(part[:length].tolist() for part, length in zip(parts, (d, n, n, n * d))))
+    answer = _call("reading", "solver_read", "BBBBQ", file, *slices)
+    lengths = answer.levels, answer.lines, answer.lines, answer.lines * answer.levels
+    return Model(*(part[:length].tolist() for part, length in zip(answer.lent[1:], lengths)))
 
 
 def write(model: Model) -> bytes:
-    answer, lent = _call("writing", "solver_write", "nnBBBQB", model.n, model.d, *model, bytes(MAX_FILE))
-    return lent[-1][:answer[LENGTH]].tobytes()
+    return _call("writing", "solver_write", "nnBBBQB", model.n, model.d, *model, bytes(MAX_FILE)).made
 
 
 def query(file: bytes, sets: Sequence[int]) -> int:
-    return _call("one query", "solver_query", "BQ", file, sets)[0][SET]
+    return _call("one query", "solver_query", "BQ", file, sets).set
 
 
 def plain(file: bytes, a: int = 0, b: Optional[int] = None, ceiling: int = 1_000_000) -> Judged:
-    return Judged(*_call("judging plainly", "solver_plain", "Bnnn", file, a, b, ceiling)[0][SET:LENGTH])
+    return Judged(*_call("judging plainly", "solver_plain", "Bnnn", file, a, b, ceiling)[1:3])
 
 
 def built(file: bytes, a: int = 0, b: Optional[int] = None, ceiling: int = 1_000_000) -> Judged:
-    return Judged(*_call("judging by built-in trees", "solver_built", "Bnnn", file, a, b, ceiling)[0][SET:LENGTH])
+    return Judged(*_call("judging by built-in trees", "solver_built", "Bnnn", file, a, b, ceiling)[1:3])
 
 
 def lent(file: bytes, a: int, b: Optional[int], u: Sequence[int], v: Sequence[int]) -> Judged:
-    return Judged(*_call("judging by lent trees", "solver_lent", "BnnBB", file, a, b, u, v)[0][SET:LENGTH])
+    return Judged(*_call("judging by lent trees", "solver_lent", "BnnBB", file, a, b, u, v)[1:3])
 
 
 def page(file: bytes) -> str:
-    answer, lent = _call("making the page", "solver_page", "BB", file, bytes(MAX_PAGE))
-    return lent[-1][:answer[LENGTH]].tobytes().decode()
+    return _call("making the page", "solver_page", "BB", file, bytes(MAX_PAGE)).made.decode()
 
 
 def join(first: bytes, second: bytes) -> bytes:
-    answer, lent = _call("joining", "solver_join", "BBB", first, second, bytes(MAX_FILE))
-    return lent[-1][:answer[LENGTH]].tobytes()
+    read(first), read(second)  # joining gives 2 for both together: one that is wrong by itself is refused here
+    return _call("joining", "solver_join", "BBB", first, second, bytes(MAX_FILE)).made
 
 
 def lines(set: int) -> List[int]:
@@ -109,6 +107,8 @@ def lines(set: int) -> List[int]:
 
 if __name__ == "__main__":
     status = 0 if sys.argv[1:] else 2
+    if status:
+        print("usage: python3 examples/solver.py FILE..", file=sys.stderr)
     for name in sys.argv[1:]:
         try:
             judged = built(Path(name).read_bytes())

@@ -4,6 +4,8 @@
 //! - `reference`: an unrelated implementation of document 01, which the tests compare the engine with.
 //! - `random`: models, files, bounds and trees from a seed.
 //! - `lent`: what the tests lend to operations, the page beside the reference's, and which answers came up.
+//! - `words`: refusals in words, as the scripts and the join program say them.
+//! - `scripts`: running the programs' scripts.
 //! - `baseline`: the routes, the bench page and joining in Rust, which the benchmark compares the engine's speed with.
 
 mod answer;
@@ -12,6 +14,8 @@ pub mod ffi;
 pub mod lent;
 pub mod random;
 pub mod reference;
+pub mod scripts;
+pub mod words;
 
 pub use answer::Answer;
 

@@ -1,15 +1,18 @@
 //! The judging program and the page program: their texts against the reference's, for the sample models, random files, forecasts around
 //! their ceiling, input in pieces and input that is too long. The join program: its files and refusals against the reference's, for random
-//! pairs of files, 64 lines and 65, files that are too long, empty or not there. And the scripts of all three.
+//! pairs of files, 64 lines and 65, files that are too long, empty or not there. What all three say of an input that cannot be read and of an
+//! output that cannot be written.
 
 use harness::lent::Seen;
 use harness::random::{self, full, Random};
 use harness::reference::forecast::{forecasts_around, over};
 use harness::reference::met::{chain, with_one_good_line};
 use harness::reference::{self, forecast, good_lines, met_lines, share_of, word_of, Kind};
+use harness::scripts::{closed_pipe, full_disk, run_by_shell, Ended};
+use harness::words::Where;
 use harness::{root, Answer, PROGRAM_CEILING};
 use std::io::Write;
-use std::process::{Command, Output, Stdio};
+use std::process::{Command, Stdio};
 use std::time::Duration;
 
 /// The bytes of a file of the repository.
@@ -96,7 +99,7 @@ fn every_sample_model_is_judged_and_has_its_page() {
             seen += 1;
         }
     }
-    assert_eq!(seen, 12);
+    assert_eq!(seen, 13);
 }
 
 #[test]
@@ -168,7 +171,7 @@ fn the_spare_lines_count_for_nothing_as_their_note_says() {
         (Kind::All, &[]),
         (Kind::All, &[]),
     ];
-    let of_lines = |lines| reference::Model::of(&[false, true], lines).old_file();
+    let of_lines = |lines| reference::Model::of(&[false, true], lines).file();
     let file = bytes_of("models/spares.model");
     assert_eq!(file, of_lines(&lines));
     assert_eq!(judged(&file), "plain 00000000000000f4 6\ntree 00000000000000f4 64\nshare 250\n");
@@ -325,7 +328,7 @@ fn a_plain_run_over_the_ceiling_is_cut_off_and_the_trees_judge_all_the_same() {
         let (set, forecast) = (word_of(&good_lines(&model)), forecast(&model));
         let plain = if plainly { format!("{set:016x} 1000000") } else { "refused 10".to_string() };
         assert_eq!(text, format!("plain {plain}\ntree {set:016x} {forecast}\nshare 1000\n"));
-        assert_eq!(model.old_file() == bytes_of("models/chains.model"), !plainly);
+        assert_eq!(model.file() == bytes_of("models/chains.model"), !plainly);
     }
 }
 
@@ -402,7 +405,10 @@ fn expected_join(first: &[u8], second: &[u8]) -> (Answer, Vec<u8>, String) {
     let mut file = vec![0; 4248];
     let answer = reference::join(first, second, &mut file);
     file.truncate(answer.length as usize);
-    let said = if answer.number == 0 { String::new() } else { refused(answer.number) };
+    let said = match answer.number {
+        0 => String::new(),
+        number => refused(number) + &Where::of(first, second).line(),
+    };
     (answer, file, said)
 }
 
@@ -502,21 +508,60 @@ fn empty_files_are_refused() {
     }
 }
 
-/// A file that is not there is named, and then refused as an empty one.
+/// The first file that cannot be opened or read is named with the reason, and nothing is refused.
 #[test]
-fn files_that_are_not_there_are_named_and_refused() {
-    let none = |name: &str| path_of("missing", name);
-    let p = bytes_of("models/p.model");
-    let [first, long] = saved("missing", &p, &[&p[..], &[0]].concat());
-    for (paths, number) in [
-        ([none("a"), first.clone()], 1),
-        ([first, none("b")], 1),
-        ([none("a"), none("b")], 1),
-        ([long, none("b")], 5),
+fn files_that_cannot_be_read_are_named() {
+    let [p, q] = ["models/p.model", "models/q.model"].map(root);
+    let (none, folder) = (path_of("missing", "none"), root("models"));
+    let (no_file, is_folder) = ("No such file or directory", "Is a directory");
+    for (paths, named, reason) in [
+        ([&none, &p], &none, no_file),
+        ([&p, &none], &none, no_file),
+        ([&none, &folder], &none, no_file),
+        ([&folder, &none], &folder, is_folder),
+        ([&q, &folder], &folder, is_folder),
     ] {
-        let missing = paths.iter().filter(|path| !std::fs::exists(path).expect("its folder is there"));
-        let named: String = missing.map(|path| format!("{path}: No such file or directory\n")).collect();
-        assert_joins(&paths, &[], &(named + &refused(number)));
+        assert_joins(&paths.map(String::clone), &[], &format!("{named}: {reason}\n"));
+    }
+}
+
+/// Runs a program by the shell, with these words behind it: it must write nothing and say this. A closed pipe is an error of its write, and no signal.
+fn assert_says(program: &str, words: &str, output: Stdio, said: &str) {
+    let ended = run_by_shell(&format!("trap '' PIPE; target/bin/{program} {words}"), output);
+    assert_eq!(ended, Ended::new(0, "", said), "{program} {words}");
+}
+
+/// A read that fails is no end of the input, and never `refused 1`.
+#[test]
+fn input_that_cannot_be_read_is_said() {
+    for program in ["judge", "page"] {
+        for (words, reason) in [("<models", "Is a directory"), ("<&-", "Bad file descriptor")] {
+            assert_says(program, words, Stdio::piped(), &format!("standard input: {reason}\n"));
+        }
+    }
+}
+
+#[test]
+fn output_that_cannot_be_written_is_said() {
+    let p = "models/p.model";
+    for (program, words) in
+        [("judge", format!("<{p}")), ("page", format!("<{p}")), ("join", format!("{p} {p}"))]
+    {
+        for (output, closing, reason) in [
+            (full_disk(), "", "No space left on device"),
+            (closed_pipe(), "", "Broken pipe"),
+            (Stdio::null(), " >&-", "Bad file descriptor"),
+        ] {
+            let said = format!("standard output: {reason}\n");
+            assert_says(program, &format!("{words}{closing}"), output, &said);
+        }
+    }
+}
+
+#[test]
+fn the_join_program_says_its_usage() {
+    for words in ["", "models/p.model", "models/p.model models/p.model models/p.model"] {
+        assert_says("join", words, Stdio::piped(), "usage: join FIRST SECOND >OUT\n");
     }
 }
 
@@ -528,97 +573,4 @@ fn the_joined_sample_model_is_that_of_the_other_two() {
     assert_eq!(bytes_of("crates/join/stdout"), joined);
     assert_eq!(bytes_of("crates/join/data/p.model"), p);
     assert_eq!(bytes_of("crates/join/data/pyrometers.model"), pyrometers);
-}
-
-fn run_script(script: &str, paths: &[&str]) -> Output {
-    Command::new("bash").arg(root(script)).args(paths).output().expect("bash is there")
-}
-
-/// What no script takes for a file.
-const NO_FILES: [&str; 3] = ["models/none.model", "", "models"];
-
-/// A script must have ended with 2, printed nothing and named this path.
-fn assert_names(script: &str, path: &str, output: &Output) {
-    assert_eq!(output.status.code(), Some(2), "{script} {path:?}");
-    assert!(output.stdout.is_empty(), "{script} {path:?}");
-    assert_eq!(String::from_utf8_lossy(&output.stderr), format!("{script}: {path}: no such file\n"));
-}
-
-#[test]
-fn each_script_runs_its_program_and_names_a_file_that_is_not_there() {
-    let p = bytes_of("models/p.model");
-    for (script, text) in [("judge.sh", expected_judgement(&p)), ("page.sh", expected_page(&p))] {
-        let found = run_script(script, &[&root("models/p.model")]);
-        assert!(found.status.success());
-        assert_eq!(String::from_utf8_lossy(&found.stdout), text);
-        for path in NO_FILES {
-            assert_names(script, path, &run_script(script, &[path]));
-        }
-    }
-}
-
-/// Runs `join.sh`, which must print nothing and end with this status and these words, and answers what is then in its third file.
-fn join_by_script(paths: [&str; 3], status: i32, says: &str) -> Option<Vec<u8>> {
-    let output = run_script("join.sh", &paths);
-    assert_eq!(String::from_utf8_lossy(&output.stderr), says);
-    assert_eq!(output.status.code(), Some(status));
-    assert!(output.stdout.is_empty());
-    std::fs::read(paths[2]).ok()
-}
-
-#[test]
-fn join_sh_writes_the_joined_file() {
-    let mut random = Random::new(806);
-    let models = random::models_alike(&mut random, [5, 9], 3);
-    let [first, second] = models.map(|model| random::file(&mut random, &model));
-    let out = path_of("script", "out");
-    let _ = std::fs::remove_file(&out);
-    // To a file that is not there and to one that is, in the other order; to a longer one; and over either of the two, or both.
-    let save = || saved("script", &first, &second);
-    let [a, b] = &save();
-    let joined = |first: &[u8], second: &[u8]| Some(expected_join(first, second).1);
-    assert_eq!(join_by_script([a, b, &out], 0, ""), joined(&first, &second));
-    assert_eq!(join_by_script([b, a, &out], 0, ""), joined(&second, &first));
-    std::fs::write(&out, [0xee; 5000]).expect("it is written");
-    assert_eq!(join_by_script([a, b, &out], 0, ""), joined(&first, &second));
-    assert_eq!(join_by_script([a, b, a], 0, ""), joined(&first, &second));
-    save();
-    assert_eq!(join_by_script([a, b, b], 0, ""), joined(&first, &second));
-    assert_eq!(join_by_script([a, a, a], 0, ""), joined(&first, &first));
-}
-
-#[test]
-fn join_sh_leaves_its_third_file_where_the_two_are_refused() {
-    let p = bytes_of("models/p.model");
-    let out = path_of("refused", "out");
-    for (second, number) in [(&p[..p.len() - 1], 5), (&bytes_of("models/q.model"), 15), (&[], 1)] {
-        let [a, b] = &saved("refused", &p, second);
-        let _ = std::fs::remove_file(&out);
-        assert_eq!(join_by_script([a, b, &out], 1, &refused(number)), None);
-        std::fs::write(&out, "as it was").expect("it is written");
-        assert_eq!(join_by_script([a, b, &out], 1, &refused(number)), Some(b"as it was".to_vec()));
-        assert_eq!(join_by_script([a, b, a], 1, &refused(number)), Some(p.clone()));
-    }
-}
-
-#[test]
-fn join_sh_names_what_it_cannot_use() {
-    let p: &str = &root("models/p.model");
-    let out: &str = &path_of("unusable", "out");
-    std::fs::write(out, "as it was").expect("it is written");
-    for path in NO_FILES {
-        assert_names("join.sh", path, &run_script("join.sh", &[path, p, out]));
-        assert_names("join.sh", path, &run_script("join.sh", &[p, path, out]));
-    }
-    for paths in [&[][..], &[p], &[p, p], &[p, p, out, out]] {
-        let output = run_script("join.sh", paths);
-        assert_eq!(output.status.code(), Some(2), "{paths:?}");
-        assert!(output.stdout.is_empty());
-        assert_eq!(String::from_utf8_lossy(&output.stderr), "usage: ./join.sh FIRST SECOND OUT\n");
-    }
-    assert_eq!(std::fs::read(out).expect("it is there"), b"as it was");
-    let nowhere = path_of("no such folder/", "out");
-    let output = run_script("join.sh", &[p, p, &nowhere]);
-    assert!(!output.status.success() && output.stdout.is_empty());
-    assert!(String::from_utf8_lossy(&output.stderr).contains(&nowhere));
 }

@@ -1,14 +1,21 @@
-//! `judge.sh`, `page.sh` and `join.sh` run no program that is older than its sources. Each is copied to a folder of its own, where a script
-//! stands for `rt`: what it builds prints "new", and the program that is there beforehand prints "old".
+//! `judge.sh`, `page.sh` and `join.sh` run no program that is older than its sources, and show that proving goes on. Each is copied to a folder of its
+//! own, where a script stands for `rt`: what it builds prints "new", and the program that is there beforehand prints "old".
 
 use std::fs::{self, File, Permissions};
 use std::os::unix::fs::PermissionsExt;
 use std::path::{Path, PathBuf};
-use std::process::{Command, Output};
+use std::process::{Command, Output, Stdio};
+
+use harness::root;
 use std::time::{Duration, SystemTime};
 
 /// The programs, each of which has a script of its name.
 const PROGRAMS: [&str; 3] = ["judge", "page", "join"];
+
+/// A crates.txt in which a program stands on three crates, one of them by two ways, and another program on one more.
+fn crates(program: &str) -> String {
+    format!("# a comment: b\na:\nb: a  # and a\nc: a b io\nother: a d\nd:\n{program}: c b libc\n")
+}
 
 struct Copy {
     folder: PathBuf,
@@ -33,14 +40,15 @@ impl Copy {
     fn new(program: &'static str, name: &str) -> Copy {
         let folder = Path::new(env!("CARGO_TARGET_TMPDIR")).join(format!("{program}_{name}"));
         let _ = fs::remove_dir_all(&folder);
-        for part in ["crates/a/src", "target/bin", "bin", "tools"] {
+        for part in ["crates/a/src", "crates/a/must-fail", "target/bin", "bin", "tools", "include"] {
             fs::create_dir_all(folder.join(part)).expect("it is made");
         }
-        for script in [&format!("{program}.sh"), "tools/run-program.sh", "tools/ready-program.sh"] {
-            fs::copy(Path::new(env!("CARGO_MANIFEST_DIR")).join("..").join(script), folder.join(script))
-                .expect("it is there");
+        for script in
+            [&format!("{program}.sh"), "tools/run-program.sh", "tools/program.sh", "include/refusals.txt"]
+        {
+            fs::copy(root(script), folder.join(script)).expect("it is there");
         }
-        fs::write(folder.join("crates.txt"), "a:\n").expect("it is written");
+        fs::write(folder.join("crates.txt"), crates(program)).expect("it is written");
         fs::write(folder.join("crates/a/src/main.rt"), "fn main() {}\n").expect("it is written");
         fs::write(folder.join("a.model"), "").expect("it is written");
         let built = format!("target/bin/{program}");
@@ -52,7 +60,9 @@ impl Copy {
             ),
         );
         let copy = Copy { folder, program };
-        for path in ["crates.txt", "crates", "crates/a", "crates/a/src", "crates/a/src/main.rt"] {
+        for path in
+            ["crates.txt", "crates", "crates/a", "crates/a/src", "crates/a/src/main.rt", "crates/a/must-fail"]
+        {
             copy.age(path, -10);
         }
         copy.age(&built, 0);
@@ -71,20 +81,36 @@ impl Copy {
         set_age(&self.folder.join(path), seconds);
     }
 
+    fn path(&self, name: &str) -> PathBuf {
+        self.folder.join(name)
+    }
+
+    /// The script over a model, with `rt` standing in the copy's folder.
+    fn script_over(&self, model: &str) -> Command {
+        let path = format!("{}:{}", self.path("bin").display(), std::env::var("PATH").expect("there is one"));
+        let mut script = Command::new(self.path(&format!("{}.sh", self.program)));
+        script.arg(self.path(model)).env("PATH", path);
+        if self.program == "join" {
+            script.args([self.path(model), self.path("joined.model")]);
+        }
+        script
+    }
+
+    fn script(&self) -> Command {
+        self.script_over("a.model")
+    }
+
     /// Runs the script. What `join.sh` writes to its third file, and to no other place, stands in the output as if it were printed.
     fn run(&self) -> Output {
-        let path =
-            format!("{}:{}", self.folder.join("bin").display(), std::env::var("PATH").expect("there is one"));
-        let [model, joined] = ["a.model", "joined.model"].map(|name| self.folder.join(name));
-        let mut script = Command::new(self.folder.join(format!("{}.sh", self.program)));
-        script.arg(&model).env("PATH", path);
+        self.ended(self.script().output().expect("it ran"))
+    }
+
+    fn ended(&self, output: Output) -> Output {
         if self.program != "join" {
-            return script.output().expect("it ran");
+            return output;
         }
-        fs::write(&joined, "").expect("it is written");
-        let output = script.args([&model, &joined]).output().expect("it ran");
         assert!(output.stdout.is_empty());
-        Output { stdout: fs::read(&joined).expect("it is there"), ..output }
+        Output { stdout: fs::read(self.path("joined.model")).unwrap_or_default(), ..output }
     }
 
     fn prints(&self, program: &str, says: &str) {
@@ -157,9 +183,165 @@ fn a_source_changed_meanwhile_has_it_built_again() {
 #[test]
 fn a_program_that_is_not_proved_is_not_run() {
     for program in PROGRAMS {
-        let output = Copy::stale(program, "not_proved", "exit 1").run();
-        assert_eq!(output.status.code(), Some(1));
+        let rt = "echo 'rt: a proved (1 s)'; echo 'a hole' >&2; echo 'rt: b NOT PROVED (exit 1, 0 s)'; echo 'rt: FAILED: b'; exit 1";
+        let copy = Copy::stale(program, "not_proved", rt);
+        let output = copy.run();
+        assert_eq!(output.status.code(), Some(3));
         assert!(output.stdout.is_empty());
-        assert!(String::from_utf8_lossy(&output.stderr).contains("it is not run"));
+        // What the prover said last, and where all of it is.
+        let said = String::from_utf8_lossy(&output.stderr).into_owned();
+        let end = format!(
+            "proving 1 of 4: a\n{program}.sh: rt: FAILED: b\n{program}.sh: the program could not be proved and built, so it is not run: \
+             target/log/{program}.sh has what the prover said\n"
+        );
+        assert!(said.ends_with(&end), "{said}");
+        let log = fs::read_to_string(copy.path(&format!("target/log/{program}.sh"))).expect("it is there");
+        assert_eq!(log, "rt: a proved (1 s)\na hole\nrt: b NOT PROVED (exit 1, 0 s)\nrt: FAILED: b\n");
+    }
+}
+
+/// An edit that must fail is no source.
+#[test]
+fn a_newer_edit_that_must_fail_has_nothing_built() {
+    for program in PROGRAMS {
+        let copy = Copy::new(program, "edit");
+        fs::write(copy.path("crates/a/must-fail/new.edit"), "").expect("it is written");
+        copy.age("crates/a", -10);
+        copy.prints("old", "");
+    }
+}
+
+// ---- the first run ----
+
+/// What `rt` prints while it proves the four crates of a program, and builds it.
+fn proving(program: &str) -> String {
+    let crates: String = ["a", "b", "c", program]
+        .map(|name| {
+            format!("echo 'fn {name}::f: proved'; echo 'logic=proved'; echo 'rt: {name} proved (2 s)'\n")
+        })
+        .concat();
+    format!("{crates}printf '#!/bin/sh\\necho new\\n' >target/bin/{program}\nchmod +x target/bin/{program}\necho 'rt: ok'")
+}
+
+/// A line for each crate that the program stands on, as it is proved, and nothing of what the prover says.
+#[test]
+fn the_first_run_counts_the_crates() {
+    for program in PROGRAMS {
+        let copy = Copy::stale(program, "first", &proving(program));
+        let output = copy.run();
+        assert_eq!((output.status.code(), &output.stdout[..]), (Some(0), &b"new\n"[..]));
+        let said = format!(
+            "{program}.sh: proving and building the program, since crates.txt is newer; from nothing this takes some minutes\n\
+             proving 1 of 4: a\nproving 2 of 4: b\nproving 3 of 4: c\nproving 4 of 4: {program}\n"
+        );
+        assert_eq!(String::from_utf8_lossy(&output.stderr), said);
+        let log = fs::read_to_string(copy.path(&format!("target/log/{program}.sh"))).expect("it is there");
+        assert_eq!(log.lines().count(), 13);
+        copy.prints("new", "");
+    }
+}
+
+/// On a terminal it is one line that is written anew. `script` runs a command on a terminal of its own.
+#[test]
+fn on_a_terminal_the_count_is_one_line() {
+    for program in ["judge", "page"] {
+        let copy = Copy::stale(program, "terminal", &proving(program));
+        let script = copy.script();
+        let command = format!(
+            "{} {} 2>&1",
+            copy.path(&format!("{program}.sh")).display(),
+            copy.path("a.model").display()
+        );
+        let mut terminal = Command::new("script");
+        terminal.args(["-qec", &command, "/dev/null"]).stdin(Stdio::null());
+        terminal.envs(script.get_envs().filter_map(|(name, value)| Some((name, value?))));
+        let shown = terminal.output().expect("script is there");
+        let shown = String::from_utf8(shown.stdout).expect("it is ASCII");
+        let first = "\r\x1b[Kproving 1 of 4: a";
+        let last = format!("\r\x1b[Kproving 4 of 4: {program}\r\nnew\r\n");
+        assert!(shown.contains(first) && shown.ends_with(&last), "{shown:?}");
+        assert_eq!((shown.matches("proving ").count(), shown.matches('\n').count()), (5, 3), "{shown:?}");
+    }
+}
+
+/// What a run reads from standard input is not taken from it by `rt`.
+#[test]
+fn the_prover_reads_nothing_of_standard_input() {
+    let copy = Copy::stale("judge", "stdin", "cat >taken; touch target/bin/judge");
+    write_script(&copy.path("target/bin/judge"), "#!/bin/sh\nexec cat\n");
+    copy.age("target/bin/judge", 0);
+    copy.age("crates.txt", 10);
+    fs::write(copy.path("input"), "a model\n").expect("it is written");
+    let input = File::open(copy.path("input")).expect("it is there");
+    // A path from the root on is taken as it is.
+    let output = copy.script_over("/dev/stdin").stdin(input).output().expect("it ran");
+    assert_eq!(output.stdout, b"a model\n");
+    assert_eq!(fs::read(copy.path("taken")).expect("rt ran"), b"");
+}
+
+/// Runs at one time prove one after the other, and the later ones find it proved.
+#[test]
+fn runs_at_one_time_prove_once() {
+    for program in PROGRAMS {
+        let rt =
+            format!("echo >>runs; mkdir proving || exit 1; sleep 0.3; rmdir proving; {}", proving(program));
+        let copy = Copy::stale(program, "at_one_time", &rt);
+        let runs: Vec<_> = (0..3)
+            .map(|_| copy.script().stdout(Stdio::piped()).stderr(Stdio::piped()).spawn().expect("it runs"))
+            .collect();
+        let mut waited = 0;
+        for run in runs {
+            let output = copy.ended(run.wait_with_output().expect("it ran"));
+            assert_eq!((output.status.code(), &output.stdout[..]), (Some(0), &b"new\n"[..]));
+            waited += String::from_utf8_lossy(&output.stderr).contains("waiting until another run") as usize;
+        }
+        assert_eq!((waited, fs::read(copy.path("runs")).expect("it is there")), (2, b"\n".to_vec()));
+    }
+}
+
+/// The folders of the PATH that have no `rt`.
+fn path_without_rt() -> String {
+    let path = std::env::var("PATH").expect("there is one");
+    let without = path.split(':').filter(|folder| !Path::new(folder).join("rt").exists());
+    without.collect::<Vec<_>>().join(":")
+}
+
+#[test]
+fn without_rt_a_program_runs_where_it_is_new_and_is_asked_for_where_it_is_not() {
+    for program in PROGRAMS {
+        let copy = Copy::new(program, "without_rt");
+        let run = || copy.ended(copy.script().env("PATH", path_without_rt()).output().expect("it ran"));
+        let output = run();
+        assert_eq!(
+            (output.status.code(), &output.stdout[..], &output.stderr[..]),
+            (Some(0), &b"old\n"[..], &[][..])
+        );
+        copy.age("crates.txt", 10);
+        let _ = fs::remove_file(copy.path("joined.model"));
+        let output = run();
+        assert_eq!((output.status.code(), &output.stdout[..]), (Some(3), &[][..]));
+        let said = format!(
+            "{program}.sh: the program is to be built, since crates.txt is newer, and rt is not on the PATH: install the Rattle kit (/opt/rattle)\n"
+        );
+        assert_eq!(String::from_utf8_lossy(&output.stderr), said);
+    }
+}
+
+/// A program that is ended before its text is whole: by a signal, or in the middle of a line.
+#[test]
+fn a_text_that_is_not_whole_is_not_printed() {
+    for (program, what) in [("judge", "its text"), ("page", "its text"), ("join", "the joined file")] {
+        let copy = Copy::new(program, "not_whole");
+        for body in ["echo plain; kill -9 $$", "printf 'plain 0'"] {
+            if (program, body) == ("join", "printf 'plain 0'") {
+                continue; // A joined file has no lines: the program says where it could not write it.
+            }
+            write_script(&copy.path(&format!("target/bin/{program}")), &format!("#!/bin/sh\n{body}\n"));
+            let _ = fs::remove_file(copy.path("joined.model"));
+            let output = copy.run();
+            assert_eq!((output.status.code(), &output.stdout[..]), (Some(3), &[][..]), "{body}");
+            let said = format!("{program}.sh: the program was ended before it had written {what}\n");
+            assert!(String::from_utf8_lossy(&output.stderr).ends_with(&said));
+        }
     }
 }
