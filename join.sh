@@ -20,7 +20,8 @@ if [ -e "$out" ] && [ ! -f "$out" ]; then
     beside=
     made=$(mktemp 2>/dev/null) || fail 3 "no temporary file can be made in ${TMPDIR:-/tmp}"
 else
-    beside=$(readlink -f -- "$out") && made=$(mktemp -- "$(dirname -- "$beside")/.join.XXXXXX" 2>/dev/null) || fail 3 "$out: no file can be made there"
+    beside=$(readlink -f -- "$out") || fail 3 "$out: no file can be made there"
+    made=$(mktemp -- "$(dirname -- "$beside")/.join.XXXXXX" 2>/dev/null) || fail 3 "$out: no file can be made there"
 fi
 trap 'rm -f -- "$made"' EXIT
 

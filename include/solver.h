@@ -4,11 +4,12 @@
  *   - no pointer is null, not even that of a slice of length 0;
  *   - each points to as many elements as its length says, or more: the answer to SOLVER_WORDS words;
  *   - words are aligned as uint64_t is;
- *   - nothing that is written (a pointer without const, and the answer) overlaps anything else that is lent.
- * Nothing else is asked: every function takes all values, ends, and answers a result or a refusal.
+ *   - nothing that is written (a pointer without const, and the answer) overlaps anything else that is lent;
+ *   - nothing else writes what is lent while the call runs: bytes of a mapped file that others may write are copied first.
+ * Nothing more is asked: every function takes all values, ends, and answers a result or a refusal.
  *
- * A call takes under SOLVER_STACK bytes of stack and no other memory than what is lent, keeps nothing for later calls, and may run beside others in
- * any number of threads, as long as none of them writes what another one uses.
+ * A call takes under SOLVER_STACK bytes of stack and no other memory than what is lent, and keeps nothing for later calls. Calls may run in any number
+ * of threads at once, also over the same file.
  */
 #ifndef SOLVER_H
 #define SOLVER_H

@@ -20,14 +20,29 @@ text=${text%.}
 exec 3>&1
 reason=$({ printf '%s' "$text" >&3; } 2>&1) || fail 3 "the output could not be written: ${reason##*: }"
 
-# Each refusal in words. There is a judgement, or a page, unless the file is refused or both ways of judging are.
-refused=0
-while read -r way word number forecast; do
-    case $name,$way,$word in
-    page,refused,*) say_refusal "$file" "$word" "making the page" ${number:+"$number are forecast"} && refused=2 ;;
-    judge,refused,*) say_refusal "$file" "$word" "whatever takes a file" && refused=2 ;;
-    judge,plain,refused) say_refusal "$file: plain" "$number" "judging plainly" "1,000,000" && refused=$((refused + 1)) ;;
-    judge,tree,refused) say_refusal "$file: tree" "$number" "judging by built-in trees" "$forecast, where 1,000,000 are allowed" && refused=$((refused + 1)) ;;
+# Each refusal in words. The first word of a line is `refused`, of the whole file, or the way of judging that is refused.
+status=0
+refused_ways=0
+while read -r first second third fourth; do
+    case $name:$first:$second in
+    judge:plain:refused)
+        say_refusal "$file: plain" "$third" "judging plainly" "1,000,000"
+        refused_ways=$((refused_ways + 1))
+        ;;
+    judge:tree:refused)
+        say_refusal "$file: tree" "$third" "judging by built-in trees" "$fourth, where 1,000,000 are allowed"
+        refused_ways=$((refused_ways + 1))
+        ;;
+    judge:refused:*)
+        say_refusal "$file" "$second" "whatever takes a file"
+        status=1
+        ;;
+    page:refused:*)
+        say_refusal "$file" "$second" "making the page" "${third:+$third are forecast}"
+        status=1
+        ;;
     esac
 done <<<"$text"
-[ "$refused" -lt 2 ] || exit 1
+# Where one way is refused, the other has the judgement.
+[ "$refused_ways" -lt 2 ] || status=1
+exit "$status"
