@@ -2,8 +2,7 @@
 
 use crate::root;
 use std::ffi::OsStr;
-use std::path::Path;
-use std::process::{Command, Stdio};
+use std::process::{Command, Output, Stdio};
 
 /// How a script ended: its status, what it printed and what it said on standard error.
 #[derive(Debug, PartialEq)]
@@ -20,7 +19,10 @@ impl Ended {
 
     /// Runs a command to its end.
     pub fn of(command: &mut Command) -> Ended {
-        let output = command.output().expect("it is there");
+        Ended::with(command.output().expect("it is there"))
+    }
+
+    fn with(output: Output) -> Ended {
         let text = |bytes| String::from_utf8(bytes).expect("it is text");
         Ended { status: output.status.code(), printed: text(output.stdout), said: text(output.stderr) }
     }
@@ -35,18 +37,16 @@ pub fn run<S: AsRef<OsStr>>(script: &str, arguments: &[S]) -> Ended {
 pub fn run_by_shell(command: &str, output: Stdio) -> Ended {
     let run = Command::new("bash")
         .args(["-c", command])
-        .current_dir(Path::new(&root("")))
+        .current_dir(root(""))
         .stdout(output)
         .stderr(Stdio::piped())
         .spawn();
-    let ended = run.and_then(|run| run.wait_with_output()).expect("bash is there");
-    let text = |bytes| String::from_utf8(bytes).expect("it is text");
-    Ended { status: ended.status.code(), printed: text(ended.stdout), said: text(ended.stderr) }
+    Ended::with(run.and_then(|run| run.wait_with_output()).expect("bash is there"))
 }
 
 /// A place without room.
 pub fn full_disk() -> Stdio {
-    Stdio::from(std::fs::File::create("/dev/full").expect("it is there"))
+    Stdio::from(std::fs::OpenOptions::new().write(true).open("/dev/full").expect("it is there"))
 }
 
 /// A pipe that nobody reads.

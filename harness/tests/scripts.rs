@@ -345,3 +345,17 @@ fn a_text_that_is_not_whole_is_not_printed() {
         }
     }
 }
+
+/// A pipe that is closed before all of the joined file is read. More is written than a pipe holds.
+#[test]
+fn a_third_file_that_is_a_closed_pipe_is_noticed() {
+    let copy = Copy::new("join", "closed_pipe");
+    write_script(&copy.path("target/bin/join"), "#!/bin/sh\nhead -c 1000000 /dev/zero\n");
+    let pipe = copy.path("joined.model");
+    assert!(Command::new("mkfifo").arg(&pipe).status().expect("mkfifo is there").success());
+    let run = copy.script().stdout(Stdio::piped()).stderr(Stdio::piped()).spawn().expect("it runs");
+    drop(File::open(&pipe).expect("it is opened at both ends"));
+    let output = run.wait_with_output().expect("it ran");
+    let said = format!("join.sh: {}: the joined file could not be written\n", pipe.display());
+    assert_eq!((output.status.code(), String::from_utf8_lossy(&output.stderr).into_owned()), (Some(3), said));
+}
