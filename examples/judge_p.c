@@ -19,8 +19,8 @@ static void show_judged(const char *what, const uint64_t answer[SOLVER_WORDS]) {
 
 int main(void) {
     /* Model P: two lines, two levels. Level 1 is least, level 2 greatest. Line 0 is all of (level 1, line 1), line 1 is any of (level 2, line 0). */
-    const uint8_t signs[2] = {0, 1};
-    const uint8_t kinds[2] = {1, 0};
+    const uint8_t signs[2] = {SOLVER_LEAST, SOLVER_GREATEST};
+    const uint8_t kinds[2] = {SOLVER_ALL, SOLVER_ANY};
     const uint8_t thresholds[2] = {0, 0}; /* none of the lines is a vote */
     const uint64_t words[4] = {1 << 1, 0, 0, 1 << 0};
     uint8_t file[SOLVER_MAX_FILE];

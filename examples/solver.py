@@ -1,12 +1,10 @@
-"""The operations of include/solver.h for Python, by the shared library that docs/MANUAL.md says how to make.
+"""include/solver.h for Python, over the shared library of docs/MANUAL.md. As a script it judges the files it is given.
 
 >>> from solver import ALL, ANY, GREATEST, LEAST, Model, built, lines, write
 >>> p = write(Model(signs=[LEAST, GREATEST], kinds=[ALL, ANY], thresholds=[0, 0], words=[2, 0, 0, 1]))
 >>> judged = built(p)
 >>> lines(judged.set), judged.count
 ([0, 1], 4)
-
-As a script it judges the files that it is given, each in a row; status 1: one is refused, 2: one cannot be read.
 """
 import ctypes
 import os
@@ -27,15 +25,13 @@ _ROWS = [row.split("\t") for row in (_ROOT / "include/refusals.txt").read_text()
 _WORDS = {(int(row[0]), operation): row[2:] for row in _ROWS for operation in row[1].split(", ")}
 
 
-class Refused(Exception):
-    """The operation has its name of include/refusals.txt; the count is the forecast where there is one, and else 0."""
+class Refused(Exception):  # the operation is named as in include/refusals.txt; the count is the forecast, if any
     def __init__(self, number: int, operation: str, count: int = 0) -> None:
-        self.number, self.operation, self.count = self.args = number, operation, count
+        self.number, self.operation, self.count = number, operation, count
 
     def __str__(self) -> str:
         why, what_to_do = _WORDS.get((self.number, self.operation)) or _WORDS[self.number, "whatever takes a file"]
-        forecast = f" ({self.count} are forecast)" if self.count else ""
-        return f"refused {self.number}: {why}{forecast}; {what_to_do}"
+        return f"refused {self.number}: {why}{f' ({self.count} are forecast)' if self.count else ''}; {what_to_do}"
 
 
 class Model(NamedTuple):
@@ -48,16 +44,16 @@ class Model(NamedTuple):
 
 
 def _call(operation: str, function: str, codes: str, *values: Any) -> _Answer:
-    """Lends bytes (code B), words (Q) and numbers (n) to a function; with its answer stands what was lent and made."""
+    """Lends bytes (B), words (Q), numbers (n) and an upper bound (b); the answer has also what was lent and made."""
     if _LIBRARY is None:
         raise FileNotFoundError(f"{_PATH} is missing; make it by: rt staticlib solver_c && {_MAKE}")
     # An array turns down numbers that ctypes would cut. It has an entry more than is lent, so that no pointer is null.
-    lent = [value if code == "n" else array(code, [*value, 0]) for code, value in zip(codes, values)]
+    lent = [value if code in "nb" else array(code, [*value, 0]) for code, value in zip(codes, values)]
     words, arguments = array("Q", bytes(8 * 6)), array("Q")
-    for item in lent:
-        if item is None:  # all lines of the file, which is lent first
+    for code, item in zip(codes, lent):
+        if code == "b" and item is None:  # all lines of the file, which is lent first
             item = 2 ** min(int.from_bytes(lent[0][:2], "little"), MAX_LINES) - 1
-        arguments.extend((item.buffer_info()[0], len(item) - 1) if isinstance(item, array) else (item,))
+        arguments.extend((item.buffer_info()[0], len(item) - 1) if code in "BQ" else (item,))
     getattr(_LIBRARY, function)(*map(ctypes.c_uint64, arguments), ctypes.c_void_p(words.buffer_info()[0]))
     number, _, count, length, _, _ = words
     if number:
@@ -81,15 +77,15 @@ def query(file: bytes, sets: Sequence[int]) -> int:
 
 
 def plain(file: bytes, a: int = 0, b: Optional[int] = None, ceiling: int = 1_000_000) -> Judged:
-    return Judged(*_call("judging plainly", "solver_plain", "Bnnn", file, a, b, ceiling)[1:3])
+    return Judged(*_call("judging plainly", "solver_plain", "Bnbn", file, a, b, ceiling)[1:3])
 
 
 def built(file: bytes, a: int = 0, b: Optional[int] = None, ceiling: int = 1_000_000) -> Judged:
-    return Judged(*_call("judging by built-in trees", "solver_built", "Bnnn", file, a, b, ceiling)[1:3])
+    return Judged(*_call("judging by built-in trees", "solver_built", "Bnbn", file, a, b, ceiling)[1:3])
 
 
 def lent(file: bytes, a: int, b: Optional[int], u: Sequence[int], v: Sequence[int]) -> Judged:
-    return Judged(*_call("judging by lent trees", "solver_lent", "BnnBB", file, a, b, u, v)[1:3])
+    return Judged(*_call("judging by lent trees", "solver_lent", "BnbBB", file, a, b, u, v)[1:3])
 
 
 def page(file: bytes) -> str:
@@ -102,18 +98,18 @@ def join(first: bytes, second: bytes) -> bytes:
 
 
 def lines(set: int) -> List[int]:
-    return [line for line in range(MAX_LINES) if set >> line & 1]
+    return [line for line in range(set.bit_length()) if set >> line & 1]
 
 
-if __name__ == "__main__":
+if __name__ == "__main__":  # status 1: a file is refused; 2: one cannot be read, or none is given
     status = 0 if sys.argv[1:] else 2
     if status:
         print("usage: python3 examples/solver.py FILE..", file=sys.stderr)
     for name in sys.argv[1:]:
         try:
             judged = built(Path(name).read_bytes())
-            print(f"{name}: good lines {lines(judged.set)}, count {judged.count}")
+            row = f"good lines {lines(judged.set)}, count {judged.count}"
         except (Refused, OSError) as error:
-            print(f"{name}: {error}")
-            status = max(status, 1 if isinstance(error, Refused) else 2)
+            row, status = str(error), max(status, 1 if isinstance(error, Refused) else 2)
+        print(f"{name}: {row}")
     sys.exit(status)

@@ -33,6 +33,10 @@ extern "C" {
 #define SOLVER_MAX_READ_WORDS 512   /* selections that a reading fills: 64 lines, 8 levels; beside them 8 signs, 64 kinds, 64 thresholds */
 #define SOLVER_STACK 32768
 
+/* A level's sign, and a line's kind. */
+enum solver_sign { SOLVER_LEAST, SOLVER_GREATEST };
+enum solver_kind { SOLVER_ANY, SOLVER_ALL, SOLVER_VOTE };
+
 /* The six words of an answer. Where the number is a refusal the others are 0; but where solver_built and solver_page refuse with
  * SOLVER_CEILING, the count is the forecast. A refusal changes nothing that was lent but the answer. */
 enum solver_word {
