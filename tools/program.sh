@@ -133,7 +133,7 @@ prove_and_build() { # WHY
     say "$script: proving and building the program, since $1; from nothing this takes some minutes"
     # The program counts as old as this moment: what changes while it is built is newer.
     touch "$root/$log.began"
-    if ! (cd "$root" && rt check "$name" 2>&1 </dev/null 9>&- | tee "$log" | show_progress); then
+    if ! (cd "$root" && (trap - PIPE XFSZ && exec rt check "$name") 2>&1 </dev/null 9>&- | tee "$log" | show_progress); then
         say "$script: $(grep '^rt: ' "$root/$log" | tail -n 1)"
         fail 3 "the program could not be proved and built, so it is not run: $log has what the prover said"
     fi
