@@ -131,11 +131,14 @@ make_ready() {
 prove_and_build() { # WHY
     local log=target/log/$script
     say "$script: proving and building the program, since $1; from nothing this takes some minutes"
+    # Where `rt` has a stamp it builds nothing, though the program was removed.
+    [ -x "$program" ] || rm -f "$root/target/stamp/$name"
     # The program counts as old as this moment: what changes while it is built is newer.
     touch "$root/$log.began"
     if ! (cd "$root" && (trap - PIPE XFSZ && exec rt check "$name") 2>&1 </dev/null 9>&- | tee "$log" | show_progress); then
         say "$script: $(grep '^rt: ' "$root/$log" | tail -n 1)"
         fail 3 "the program could not be proved and built, so it is not run: $log has what the prover said"
     fi
+    [ -x "$program" ] || fail 3 "target/bin/$name is not there, though it is proved: remove target/ and call $script again"
     touch -r "$root/$log.began" "$program"
 }

@@ -200,6 +200,33 @@ fn a_program_that_is_not_proved_is_not_run() {
     }
 }
 
+/// `rt` builds nothing where it has a stamp of its own. A program that was removed all the same is built again.
+#[test]
+fn a_removed_program_is_built_again() {
+    for program in PROGRAMS {
+        let stamp = format!("target/stamp/{program}");
+        let rt = format!("[ -e {stamp} ] && exit 0\n{}\ntouch {stamp}", proving(program));
+        let copy = Copy::stale(program, "removed", &rt);
+        fs::create_dir(copy.path("target/stamp")).expect("it is made");
+        copy.prints("new", "since crates.txt is newer");
+        fs::remove_file(copy.path(&format!("target/bin/{program}"))).expect("it is there");
+        copy.prints("new", "since it is missing");
+    }
+}
+
+#[test]
+fn a_program_that_is_not_built_is_not_made_up() {
+    for program in PROGRAMS {
+        let copy = Copy::stale(program, "not_built", "exit 0");
+        let built = copy.path(&format!("target/bin/{program}"));
+        fs::remove_file(&built).expect("it is there");
+        let output = copy.run();
+        assert_eq!((output.status.code(), &output.stdout[..], built.exists()), (Some(3), &[][..], false));
+        let said = format!("{program}.sh: target/bin/{program} is not there, though it is proved: remove target/ and call {program}.sh again\n");
+        assert!(String::from_utf8_lossy(&output.stderr).ends_with(&said));
+    }
+}
+
 /// An edit that must fail is no source.
 #[test]
 fn a_newer_edit_that_must_fail_has_nothing_built() {
