@@ -89,7 +89,7 @@ fn expected_judgement(file: &[u8]) -> String {
 
 #[test]
 fn every_sample_model_is_judged_and_has_its_page() {
-    let mut seen = 0;
+    let (mut seen, mut old) = (0, Vec::new());
     for entry in std::fs::read_dir(root("models")).expect("models/ is there") {
         let path = entry.expect("it is read").path();
         if path.extension().is_some_and(|e| e == "model") {
@@ -97,9 +97,14 @@ fn every_sample_model_is_judged_and_has_its_page() {
             assert_eq!(judged(&file), expected_judgement(&file), "{}", path.display());
             assert_eq!(paged(&file), expected_page(&file), "{}", path.display());
             seen += 1;
+            if random::is_old(&file, file[0] as usize, file[2] as usize) {
+                old.push(path.file_stem().expect("it has a name").to_string_lossy().into_owned());
+            }
         }
     }
     assert_eq!(seen, 13);
+    old.sort();
+    assert_eq!(old, ["p", "pyrometers-old"]);
 }
 
 #[test]

@@ -306,23 +306,22 @@ fn the_prover_reads_nothing_of_standard_input() {
     assert_eq!(fs::read(copy.path("taken")).expect("rt ran"), b"");
 }
 
-/// Runs at one time prove one after the other, and the later ones find it proved.
+/// Runs at one time prove once: `rt` goes on when the two others say that they wait, and these then find the program proved.
 #[test]
 fn runs_at_one_time_prove_once() {
     for program in PROGRAMS {
-        let rt =
-            format!("echo >>runs; mkdir proving || exit 1; sleep 0.3; rmdir proving; {}", proving(program));
+        let wait = "until [ \"$(cat said.* | grep -c waiting)\" = 2 ]; do sleep 0.01; done";
+        let rt = format!("echo >>runs\n{wait}\n{}", proving(program));
         let copy = Copy::stale(program, "at_one_time", &rt);
-        let runs: Vec<_> = (0..3)
-            .map(|_| copy.script().stdout(Stdio::piped()).stderr(Stdio::piped()).spawn().expect("it runs"))
-            .collect();
-        let mut waited = 0;
+        let runs = [0, 1, 2].map(|run| {
+            let said = File::create(copy.path(&format!("said.{run}"))).expect("it is made");
+            copy.script().stdout(Stdio::piped()).stderr(said).spawn().expect("it runs")
+        });
         for run in runs {
             let output = copy.ended(run.wait_with_output().expect("it ran"));
             assert_eq!((output.status.code(), &output.stdout[..]), (Some(0), &b"new\n"[..]));
-            waited += String::from_utf8_lossy(&output.stderr).contains("waiting until another run") as usize;
         }
-        assert_eq!((waited, fs::read(copy.path("runs")).expect("it is there")), (2, b"\n".to_vec()));
+        assert_eq!(fs::read(copy.path("runs")).expect("it is there"), b"\n");
     }
 }
 
