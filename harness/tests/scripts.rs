@@ -2,7 +2,8 @@
 //! own, where a script stands for `rt`: what it builds prints "new", and the program that is there beforehand prints "old".
 
 use std::fs::{self, File, Permissions};
-use std::os::unix::fs::PermissionsExt;
+use std::io::Read;
+use std::os::unix::fs::{OpenOptionsExt, PermissionsExt};
 use std::path::{Path, PathBuf};
 use std::process::{Command, Output, Stdio};
 
@@ -379,8 +380,15 @@ fn a_third_file_that_is_a_closed_pipe_is_noticed() {
     write_script(&copy.path("target/bin/join"), "#!/bin/sh\nhead -c 1000000 /dev/zero\n");
     let pipe = copy.path("joined.model");
     assert!(Command::new("mkfifo").arg(&pipe).status().expect("mkfifo is there").success());
-    let run = copy.script().stdout(Stdio::piped()).stderr(Stdio::piped()).spawn().expect("it runs");
-    drop(File::open(&pipe).expect("it is opened at both ends"));
+    // Opened without waiting for a writer, and closed at the first byte.
+    const O_NONBLOCK: i32 = 0o4000;
+    let reader = File::options().read(true).custom_flags(O_NONBLOCK).open(&pipe);
+    let mut reader = reader.expect("it is there");
+    let mut run = copy.script().stdout(Stdio::piped()).stderr(Stdio::piped()).spawn().expect("it runs");
+    while !matches!(reader.read(&mut [0]), Ok(1)) && run.try_wait().expect("it runs").is_none() {
+        std::thread::sleep(Duration::from_millis(5));
+    }
+    drop(reader);
     let output = run.wait_with_output().expect("it ran");
     let said = format!("join.sh: {}: the joined file could not be written\n", pipe.display());
     assert_eq!((output.status.code(), String::from_utf8_lossy(&output.stderr).into_owned()), (Some(3), said));
