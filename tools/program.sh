@@ -46,18 +46,16 @@ expect_readable() { # FILE
     fi
 }
 
-# What a refusal means for an operation, and what to do: the words of include/refusals.txt. Which of the two: 3 or 4.
-refusal_words() { # NUMBER OPERATION FIELD
-    awk -F'\t' -v number="$1" -v operation="$2" -v field="$3" '
-        $1 != number { next }
-        index(", " $2 ",", ", " operation ",") { own = $field }
-        index($2, "whatever takes a file") { general = $field }
-        END { print own != "" ? own : general }' "$root/include/refusals.txt"
-}
-
-# Says in words why something is refused, with a detail where there is one.
+# Says in words why something is refused, with a detail where there is one, and what to do: by the operation's row of include/refusals.txt, or that of
+# every operation on a file.
 say_refusal() { # WHAT NUMBER OPERATION [DETAIL]
-    say "$script: $1: $(refusal_words "$2" "$3" 3)${4:+ ($4)}; $(refusal_words "$2" "$3" 4)"
+    local words
+    words=$(awk -F'\t' -v number="$2" -v operation="$3" -v detail="${4:+ ($4)}" '
+        $1 != number { next }
+        index(", " $2 ",", ", " operation ",") { own = $3 detail "; " $4 }
+        index($2, "whatever takes a file") { general = $3 detail "; " $4 }
+        END { print own != "" ? own : general }' "$root/include/refusals.txt")
+    say "$script: $1: $words"
 }
 
 # Why the program has to be built; nothing where it is newer than its sources. A folder is newer where a file in it has come or gone; edits that must

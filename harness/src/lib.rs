@@ -22,6 +22,15 @@ pub use answer::Answer;
 /// The ceiling of the bench page, and of both judgings in the judging program.
 pub const PROGRAM_CEILING: u64 = 1_000_000;
 
+/// The stack that every call of the engine fits: `SOLVER_STACK` of the header.
+pub const CALL_STACK: usize = 32 << 10;
+
+/// Makes a call on a thread with that stack.
+pub fn on_a_small_stack<T: Send + 'static>(call: impl FnOnce() -> T + Send + 'static) -> T {
+    let thread = std::thread::Builder::new().stack_size(CALL_STACK).spawn(call);
+    thread.expect("a thread").join().expect("a run")
+}
+
 /// The path of a file of the repository.
 pub fn root(path: &str) -> String {
     format!("{}/../{path}", env!("CARGO_MANIFEST_DIR"))

@@ -1,13 +1,11 @@
 //! The deepest runs of the tree routes: 8 levels over lent trees with 1,023 gaps on both sides, and over the largest built-in
 //! trees. The engine goes over a tree's children in a loop and calls itself once for each level; no proof bounds the stack, so
-//! the runs are made on a stack of 32 KiB.
-
-use std::thread;
+//! the runs are made on the stack that the header says is enough. The other operations are in callers.rs.
 
 use harness::random::{self, full, Density, Random};
 use harness::reference::restricted::restricted;
 use harness::reference::{forecast, good_lines, set_of, word_of, Kind, Model, Operand, Tree};
-use harness::{ffi, Answer};
+use harness::{ffi, on_a_small_stack, Answer};
 
 const GAPS: usize = 1023;
 
@@ -27,12 +25,6 @@ fn model(lines: usize, outermost_greatest: bool) -> Model {
 fn full_trees() -> [Vec<u8>; 3] {
     let falling = (0..GAPS).map(|at| 4 - (4 * at / GAPS) as u8).collect();
     [vec![4; GAPS], falling, random::gaps(&mut Random::new(802), 4, GAPS)]
-}
-
-/// Judges on a thread with 32 KiB of stack.
-fn on_a_small_stack(judge: impl FnOnce() -> Answer + Send + 'static) -> Answer {
-    let thread = thread::Builder::new().stack_size(32 << 10).spawn(judge);
-    thread.expect("a thread").join().expect("a run")
 }
 
 #[test]

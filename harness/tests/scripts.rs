@@ -311,7 +311,8 @@ fn the_prover_reads_nothing_of_standard_input() {
 #[test]
 fn runs_at_one_time_prove_once() {
     for program in PROGRAMS {
-        let wait = "until [ \"$(cat said.* | grep -c waiting)\" = 2 ]; do sleep 0.01; done";
+        // For ten seconds at the most.
+        let wait = "n=0; until [ \"$(cat said.* | grep -c waiting)\" = 2 ] || [ $((n += 1)) = 500 ]; do sleep 0.02; done";
         let rt = format!("echo >>runs\n{wait}\n{}", proving(program));
         let copy = Copy::stale(program, "at_one_time", &rt);
         let runs = [0, 1, 2].map(|run| {
