@@ -1,6 +1,8 @@
-//! Links the engine's static library, and an earlier engine's where the benchmark has one (`earlier.sh`).
+//! Links the engine's static library, and an earlier engine's where the benchmark has one (`earlier.sh`); tells the benchmark
+//! which compiler it is made by.
 
 use std::path::Path;
+use std::process::Command;
 
 fn main() {
     let manifest = std::env::var("CARGO_MANIFEST_DIR").expect("cargo sets it");
@@ -13,6 +15,11 @@ fn main() {
     }
     println!("cargo:rustc-link-search=native={}", folder.display());
     println!("cargo:rustc-link-lib=static=solver_c");
+
+    let compiler = Command::new(std::env::var("RUSTC").expect("cargo sets it")).arg("--version").output();
+    let version = String::from_utf8(compiler.expect("cargo runs it").stdout).expect("a version");
+    let short = version.split(" (").next().expect("it has a first part");
+    println!("cargo:rustc-env=COMPILER={}", short.trim());
 
     println!("cargo:rerun-if-env-changed=EARLIER_ENGINE");
     println!("cargo:rerun-if-env-changed=EARLIER_WITHOUT_CEILING");

@@ -1,7 +1,8 @@
 //! Speed of the engine beside safe Rust, with a whole query at each leaf and with the engine's own algorithm, and beside an
 //! earlier engine where one is linked (`earlier.sh`): all are called in turn in one run.
 //!
-//! `cargo run --release` takes some minutes, `cargo run --release -- --quick` some seconds.
+//! `cargo run --release` takes some minutes, and fails where a bound is not held; `cargo run --release -- --quick` takes some
+//! seconds. docs/benchmark/run.txt is a full run, from which `figures.py` draws.
 
 use std::cell::RefCell;
 use std::hint::black_box;
@@ -178,6 +179,55 @@ impl Route {
     }
 }
 
+// ---- what the engine is held to ----
+
+/// A bound on what the engine takes, in every row of the run that it is for.
+#[derive(Clone, Copy)]
+enum Bound {
+    /// The same algorithm in Rust, but for the next.
+    Levels,
+    /// Votes by plain rounds, where Rust counts 64 bits at once.
+    VotesPlainly,
+    /// Rust with a whole query at each leaf, over trees at 64 lines.
+    Whole,
+    /// The deepest runs.
+    Stack,
+}
+
+/// Each with its words and the most that is allowed.
+const BOUNDS: [(Bound, &str, f64); 4] = [
+    (Bound::Levels, "its time / the same algorithm's in Rust (levels)", 1.1),
+    (Bound::VotesPlainly, "the same, votes by plain rounds", 1.8),
+    (Bound::Whole, "its time / Rust's with whole queries (whole), over trees at 64 lines", 0.1),
+    (Bound::Stack, "its stack in KiB", 32.0),
+];
+
+/// The largest that the run has had so far of what each bound is for.
+#[derive(Default)]
+struct Largest([f64; BOUNDS.len()]);
+
+impl Largest {
+    fn note(&mut self, bound: Bound, value: f64) {
+        let largest = &mut self.0[bound as usize];
+        *largest = largest.max(value);
+    }
+
+    /// Prints each bound beside the largest of the run. Gives whether all are held.
+    fn print(&self) -> bool {
+        println!("\nwhat the engine is held to, and the largest of this run");
+        println!("{:70} {:>7} {:>7}", "", "at most", "largest");
+        let mut all = true;
+        for (bound, words, most) in BOUNDS {
+            let largest = self.0[bound as usize];
+            let held = largest <= most;
+            all &= held;
+            let (digits, held) = (if most < 10.0 { 2 } else { 0 }, if held { "held" } else { "NOT held" });
+            println!("{words:70} {most:7.digits$} {largest:7.digits$} {held}");
+        }
+        all
+    }
+}
+
 /// Of a file.
 #[derive(Clone, Copy, PartialEq)]
 enum Layout {
@@ -190,6 +240,7 @@ enum Layout {
 struct Subject {
     name: &'static str,
     lines: usize,
+    votes: bool,
     file: Vec<u8>,
     u: Vec<u8>,
     v: Vec<u8>,
@@ -217,6 +268,7 @@ impl Subject {
         Subject {
             name,
             lines,
+            votes: model.kinds.iter().any(|kind| matches!(kind, Kind::AtLeast(_))),
             file: if layout == Layout::Old { model.old_file() } else { model.file() },
             built_queries: forecast(&model),
             lent_queries: ((u.len() + 1) * (v.len() + 1)) as u64,
@@ -313,7 +365,7 @@ type Make = fn(Layout, u64, usize, usize) -> Subject;
 
 /// Measures one row and prints it, with the engine's time as a multiple of the row's before. Gives that time.
 fn row(
-    effort: Effort,
+    (effort, largest): (Effort, &mut Largest),
     (make, layout): (Make, Layout),
     (lines, levels): (usize, usize),
     route: Route,
@@ -350,13 +402,21 @@ fn row(
         print!(" {ratio:7.3}");
     }
     println!("{}", before.map_or(String::new(), |before| format!(" {:6.1}", seconds[0] / before)));
+    for (judge, &ratio) in judges_of(layout).iter().zip(&ratios) {
+        match judge {
+            Judge::Levels if first.votes && route == Route::Plain => largest.note(Bound::VotesPlainly, ratio),
+            Judge::Levels => largest.note(Bound::Levels, ratio),
+            Judge::Whole if lines == 64 && route != Route::Plain => largest.note(Bound::Whole, ratio),
+            _ => (),
+        }
+    }
     Some(seconds[0])
 }
 
 // ---- a refused forecast ----
 
 /// Judging by built-in trees under a ceiling that the forecast is over: the file is checked, and nothing is judged.
-fn print_refusals(effort: Effort) {
+fn print_refusals(effort: Effort, largest: &mut Largest) {
     println!("\na refused forecast, ceiling 1,000,000: by the engine and by Rust (levels); the median of the engine's time / Rust's");
     println!(
         "{:>5} {:>6} {:6} {:>9} {:>8} {:>8} {:>7}",
@@ -385,13 +445,14 @@ fn print_refusals(effort: Effort) {
             "{lines:5} {levels:6} {name:6} {built_queries:9} {engine:>8} {rust:>8} {:7.3}",
             times.ratios[1]
         );
+        largest.note(Bound::Levels, times.ratios[1]);
     }
 }
 
 // ---- the page ----
 
 /// The bench page by the engine and by Rust with the engine's own algorithm, beside the engine's judging of the same models.
-fn print_pages(effort: Effort) {
+fn print_pages(effort: Effort, largest: &mut Largest) {
     println!("\nthe bench page, sparse: by the engine, by Rust (levels), and the engine's judging alone; the medians of the page's time / each");
     println!(
         "{:>5} {:>6} {:>8} {:>8} {:>8} {:>7} {:>7}",
@@ -425,6 +486,7 @@ fn print_pages(effort: Effort) {
             print!(" {:>8}", time(seconds));
         }
         println!(" {:7.3} {:7.3}", times.ratios[1], times.ratios[2]);
+        largest.note(Bound::Levels, times.ratios[1]);
     }
 }
 
@@ -433,7 +495,7 @@ fn print_pages(effort: Effort) {
 type Join = fn(&[u8], &[u8], &mut [u8]) -> Answer;
 
 /// Joining by the engine and by Rust over words, as the engine does it.
-fn print_joins(effort: Effort) {
+fn print_joins(effort: Effort, largest: &mut Largest) {
     println!("\njoining two models, sparse, in new files: by the engine and by Rust; the median of the engine's time / Rust's");
     println!("{:>5} {:>6} {:>8} {:>8} {:>7}", "lines", "levels", "engine", "rust", "rust");
     for (lines, levels) in [(8, 2), (32, 2), (32, 8)] {
@@ -457,6 +519,7 @@ fn print_joins(effort: Effort) {
         let times = measure(effort, &pairs, &[&|pair| joined(ffi::join, pair), &|pair| joined(join, pair)]);
         let [engine, rust] = [times.seconds[0], times.seconds[1]].map(time);
         println!("{lines:2}+{lines:2} {levels:6} {engine:>8} {rust:>8} {:7.3}", times.ratios[1]);
+        largest.note(Bound::Levels, times.ratios[1]);
     }
 }
 
@@ -518,7 +581,7 @@ fn stack_needed(trees: &str, judge: Judge) -> Option<usize> {
     Some(enough * step)
 }
 
-fn print_stacks() {
+fn print_stacks(largest: &mut Largest) {
     println!("\nstack of the deepest runs at 8 levels, in KiB: lent trees with 1,023 gaps on both sides; built-in trees, 64 lines");
     print!("{:6}", "");
     for judge in JUDGES {
@@ -528,9 +591,13 @@ fn print_stacks() {
     for (trees, _) in DEEPEST {
         print!("{trees:6}");
         for &judge in JUDGES {
-            match stack_needed(trees, judge) {
+            let needed = stack_needed(trees, judge);
+            match needed {
                 Some(kib) => print!(" {kib:8}"),
                 None => print!(" {:>8}", "> 8192"),
+            }
+            if judge == Judge::Engine {
+                largest.note(Bound::Stack, needed.map_or(f64::INFINITY, |kib| kib as f64));
             }
         }
         println!();
@@ -546,8 +613,19 @@ fn run_on(trees: &str, judge: &str, kib: &str) {
     assert!(thread.expect("a thread").join().expect("a run"), "another count");
 }
 
-fn benchmark(effort: Effort) {
+/// The processor's name, where the machine tells it.
+fn processor() -> String {
+    let told = std::fs::read_to_string("/proc/cpuinfo").unwrap_or_default();
+    let name = told.lines().find_map(|line| line.strip_prefix("model name")?.split_once(": "));
+    name.map_or("unknown", |(_, name)| name).to_string()
+}
+
+/// Prints every table. Gives whether all bounds are held.
+fn benchmark(effort: Effort) -> bool {
     let Effort { models, large_models, .. } = effort;
+    let mut largest = Largest::default();
+    let processors = std::thread::available_parallelism().map_or(1, |number| number.get());
+    println!("{}, {processors} processors; {}\n", processor(), env!("COMPILER"));
     println!("Time of one judgement between empty and full: by the engine; by Rust with a whole query at each leaf (whole), and with");
     println!("the engine's own algorithm (levels); by an earlier engine, where there is one (earlier). Each is the mean over {models} random");
     println!("models ({large_models} where one takes over a million queries), and of that the median of several times in turn. Then the millions");
@@ -563,10 +641,10 @@ fn benchmark(effort: Effort) {
     ]) {
         heading(title, Layout::Old);
         for levels in [2, 4, 6, 8] {
-            row(effort, old(Subject::dense), (64, levels), route, None);
-            row(effort, old(Subject::sparse), (64, levels), route, None);
+            row((effort, &mut largest), old(Subject::dense), (64, levels), route, None);
+            row((effort, &mut largest), old(Subject::sparse), (64, levels), route, None);
             if route == Route::Plain {
-                row(effort, old(Subject::hard), (64, levels), route, None);
+                row((effort, &mut largest), old(Subject::hard), (64, levels), route, None);
             }
         }
     }
@@ -575,7 +653,7 @@ fn benchmark(effort: Effort) {
     for route in routes {
         let mut before = None;
         for lines in [8, 16, 32, 64] {
-            before = row(effort, old(Subject::sparse), (lines, 4), route, before);
+            before = row((effort, &mut largest), old(Subject::sparse), (lines, 4), route, before);
         }
     }
 
@@ -583,37 +661,40 @@ fn benchmark(effort: Effort) {
     for route in routes {
         let mut before = None;
         for levels in 1..=8 {
-            before = row(effort, old(Subject::sparse), (16, levels), route, before);
+            before = row((effort, &mut largest), old(Subject::sparse), (16, levels), route, before);
         }
     }
 
     let new = |make: Make| (make, Layout::New);
     heading("the same models in new files", Layout::New);
     for route in routes {
-        row(effort, new(Subject::sparse), (16, 1), route, None);
-        row(effort, new(Subject::dense), (64, 2), route, None);
-        row(effort, new(Subject::sparse), (64, 4), route, None);
+        row((effort, &mut largest), new(Subject::sparse), (16, 1), route, None);
+        row((effort, &mut largest), new(Subject::dense), (64, 2), route, None);
+        row((effort, &mut largest), new(Subject::sparse), (64, 4), route, None);
     }
 
     heading("votes: a third of the lines each any, all and at least two of three, or more than half of many (dense)", Layout::New);
     for route in routes {
         for levels in [2, 4, 6] {
-            row(effort, new(Subject::dense_votes), (64, levels), route, None);
-            row(effort, new(Subject::votes), (64, levels), route, None);
+            row((effort, &mut largest), new(Subject::dense_votes), (64, levels), route, None);
+            row((effort, &mut largest), new(Subject::votes), (64, levels), route, None);
         }
     }
 
-    print_refusals(effort);
-    print_pages(effort);
-    print_joins(effort);
-    print_stacks();
+    print_refusals(effort, &mut largest);
+    print_pages(effort, &mut largest);
+    print_joins(effort, &mut largest);
+    print_stacks(&mut largest);
+    largest.print()
 }
 
 fn main() {
     let arguments: Vec<String> = std::env::args().skip(1).collect();
     match arguments.iter().map(String::as_str).collect::<Vec<_>>()[..] {
-        [] => benchmark(FULL),
-        ["--quick"] => benchmark(QUICK),
+        [] if benchmark(FULL) => (),
+        [] => std::process::exit(1),
+        // Too short to hold anyone to it.
+        ["--quick"] => _ = benchmark(QUICK),
         ["--stack", trees, judge, kib] => run_on(trees, judge, kib),
         _ => {
             eprintln!("usage: harness [--quick]");
