@@ -107,6 +107,8 @@ def is_special(word):
 
 def check_word(doc, number, word):
     qualified = QUALIFIED.match(word)
+    if re.match(r"[\w-]+=", word):  # what the prover prints
+        return
     if PATH.match(word):
         if find(word.rstrip("/")) is None and not any(ROOT.glob(word.replace("NAME", "*"))):
             say(doc, number, f"there is no file or folder `{word}`")
