@@ -69,8 +69,13 @@ BY_FILE = {
     for path, text in TEXT.items()
     if path.suffix in DECLARED
 }
-# a file is a module, and can be named as one
-ALL_NAMES = set().union(*BY_FILE.values(), (path.stem for path in BY_FILE))
+# where each name is declared; a file is a module, and can be named as one
+PLACES = {}
+for path, names in BY_FILE.items():
+    for name in names | {path.stem}:
+        PLACES.setdefault(name, []).append(str(path))
+EDITS = {path.stem for path in TEXT if path.suffix == ".edit"}
+FILE_NAMES = {path.name for path in [*TEXT, *DOCS]}
 KIT = {"io", "os", "libc", "bytes", "std"}
 ALL_TEXT = "\n".join(TEXT.values()) + "\n".join(map(str, TEXT))
 
@@ -87,7 +92,7 @@ def find(path):
 
 def declared_in(name, place):
     """Whether a file, or a file of a folder, declares a name."""
-    return any(name in names for path, names in BY_FILE.items() if place == path or place in path.parents)
+    return any(f"{path}/".startswith(f"{place}/") for path in PLACES.get(name, []))
 
 
 # ---- names ----
@@ -96,7 +101,7 @@ WORD = re.compile(r"`([^`]+)`")
 # names joined by commas or "and", then "in" and a file
 RUN = re.compile(r"((?:`[^`]+`(?:, | and |, and ))*`[^`]+`) in `([^`]+)`")
 QUALIFIED = re.compile(r"([A-Za-z_]\w*)::(\w+)$")
-PATH = re.compile(r"^[\w.+-]+(/[\w.+-]+)+/?$")
+PATH = re.compile(r"^[\w.+-]+(/[\w.+-]+)*/$|^[\w.+-]+(/[\w.+-]+)+$")
 IDENTIFIER = re.compile(r"^[A-Za-z]\S*$")
 
 
@@ -110,22 +115,23 @@ def check_word(doc, number, word):
     if re.match(r"[\w-]+=", word):  # what the prover prints
         return
     if PATH.match(word):
-        if find(word.rstrip("/")) is None and not any(ROOT.glob(word.replace("NAME", "*"))):
+        # of some crate, or of each
+        patterns = (f"crates/*/{word}", word.replace("NAME", "*"))
+        if find(word.rstrip("/")) is None and not any(any(ROOT.glob(pattern)) for pattern in patterns):
             say(doc, number, f"there is no file or folder `{word}`")
     elif qualified:
         owner, name = qualified.groups()
         if owner in KIT:
             return
-        crate = ROOT / "crates" / owner
-        places = [Path("crates", owner, "src")] if crate.is_dir() else [path for path, names in BY_FILE.items() if owner in names and path.suffix == ".rt"]
+        crate = Path("crates", owner, "src")
+        places = [crate] if (ROOT / crate).is_dir() else [path for path in PLACES.get(owner, []) if path.endswith(".rt")]
         if not any(declared_in(name, place) for place in places):
             say(doc, number, f"`{owner}` declares no `{name}`")
     elif re.fullmatch(r"[\w+-]+\.(rs|py|sh|h|c|txt|model|md|svg)", word):
-        if not any(path.name == word for path in TEXT) and not any(path.name == word for path in DOCS):
+        if word not in FILE_NAMES:
             say(doc, number, f"there is no file `{word}`")
     elif is_special(word) and IDENTIFIER.match(word):
-        edit = any(path.suffix == ".edit" and path.stem == word for path in TEXT)
-        if word not in ALL_NAMES and not edit and find(word) is None:
+        if word not in PLACES and word not in EDITS and find(word) is None:
             say(doc, number, f"nothing declares `{word}`")
     elif doc in STRICT and word not in ALL_TEXT:
         first = word.split()[0].removeprefix("./")

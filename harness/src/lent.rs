@@ -1,4 +1,4 @@
-//! What the tests lend to operations, the page beside the reference's, and which answers came up.
+//! What the tests lend to operations, what these make beside what the reference makes, and which answers came up.
 
 use std::collections::BTreeMap;
 use std::fmt::Debug;
@@ -36,7 +36,23 @@ pub fn page_length(n: usize) -> usize {
     41 * (n + 1)
 }
 
-/// Makes the page in a buffer of this length, by the engine and by the reference, and compares all they leave.
+/// Makes something in a buffer of this length, by the engine and by the reference, and compares all they leave. `of` is what it is made of.
+pub fn made_both(
+    random: &mut Random,
+    of: impl Debug,
+    length: usize,
+    by_engine: impl FnOnce(&mut [u8]) -> Answer,
+    by_reference: impl FnOnce(&mut [u8]) -> Answer,
+) -> Answer {
+    let mut buffer = Lent::new(length, |count| random.bytes(count));
+    let mut expected = buffer.clone();
+    let answer = by_engine(buffer.slice());
+    assert_eq!(answer, by_reference(expected.slice()), "{length} {of:?}");
+    assert_eq!(buffer, expected, "{length} {of:?}");
+    answer
+}
+
+/// Makes the page so.
 pub fn page_both(random: &mut Random, file: &[u8], length: usize) -> Answer {
     page_beside(random, file, length, |buffer| reference::page(file, buffer))
 }
@@ -48,12 +64,7 @@ pub fn page_beside(
     length: usize,
     make: impl FnOnce(&mut [u8]) -> Answer,
 ) -> Answer {
-    let mut buffer = Lent::new(length, |count| random.bytes(count));
-    let mut expected = buffer.clone();
-    let answer = ffi::page(file, buffer.slice());
-    assert_eq!(answer, make(expected.slice()), "{length} {file:?}");
-    assert_eq!(buffer, expected, "{length} {file:?}");
-    answer
+    made_both(random, file, length, |buffer| ffi::page(file, buffer), make)
 }
 
 /// How often each number was answered.

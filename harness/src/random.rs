@@ -329,6 +329,16 @@ pub fn any_model(random: &mut Random, n: usize, d: usize) -> Model {
     model(random, n, &signs, density)
 }
 
+/// Lines and levels of a model: most often so few that the reference is quick.
+pub fn mostly_small_size(random: &mut Random) -> (usize, usize) {
+    let (n, d) = (random.between(1, 64), random.between(1, 8));
+    if random.chance(70) {
+        (n.min(6), d.min(3))
+    } else {
+        (n, d)
+    }
+}
+
 /// Lines and levels of a model for the page: most often few levels, and else so many of both that the forecast may be over its ceiling.
 pub fn size_for_page(random: &mut Random) -> (usize, usize) {
     if random.chance(80) {
@@ -601,6 +611,12 @@ pub fn damaged_file(random: &mut Random, n: usize, d: usize, number: u64) -> Vec
     let mut file = if number == 14 { model.file() } else { file(random, &model) };
     damage_file(random, &mut file, n, d, number);
     file
+}
+
+/// The same, of any size.
+pub fn some_damaged_file(random: &mut Random, number: u64) -> Vec<u8> {
+    let (n, d) = (random.between(1, 63), random.between(1, 8));
+    damaged_file(random, n, d, number)
 }
 
 /// A byte over `most`, often the next one.

@@ -115,8 +115,7 @@ fn judging_by_built_in_trees_is_refused_in_order() {
     let mut random = Random::new(507);
     let mut seen = Seen::default();
     for _ in 0..20_000 {
-        let (n, d) = (random.between(1, 64), random.between(1, 8));
-        let (n, d) = if random.chance(70) { (n.min(6), d.min(3)) } else { (n, d) };
+        let (n, d) = random::mostly_small_size(&mut random);
         let case = random::troubled_case(&mut random, n, d);
         // The reference is slow where a large model is judged, which other tests do.
         if n > 6 && reference::judgeable(&case.file, case.a, case.b).is_ok() {

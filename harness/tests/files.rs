@@ -1,6 +1,6 @@
 //! Reading and writing against the reference: answers, and every byte and word that was lent.
 
-use harness::lent::{file_length, Lent, Seen};
+use harness::lent::{file_length, made_both, Lent, Seen};
 use harness::random::{self, Random, Written, FILE_DAMAGES, WRITTEN_DAMAGES};
 use harness::reference::model::Parts;
 use harness::{ffi, reference, Answer};
@@ -26,13 +26,13 @@ const LARGEST: [usize; 4] = [8, 64, 64, 512];
 /// Writes into a buffer of this length, by the engine and by the reference, and compares all they leave.
 fn write_both(random: &mut Random, written: &Written, length: usize) -> Answer {
     let Written { n, d, parts: Parts { signs, kinds, thresholds, words } } = written;
-    let mut buffer = Lent::new(length, |count| random.bytes(count));
-    let mut expected = buffer.clone();
-    let answer = ffi::write(*n, *d, signs, kinds, thresholds, words, buffer.slice());
-    let expected_answer = reference::write(*n, *d, signs, kinds, thresholds, words, expected.slice());
-    assert_eq!(answer, expected_answer, "{length} {written:?}");
-    assert_eq!(buffer, expected, "{length} {written:?}");
-    answer
+    made_both(
+        random,
+        written,
+        length,
+        |buffer| ffi::write(*n, *d, signs, kinds, thresholds, words, buffer),
+        |buffer| reference::write(*n, *d, signs, kinds, thresholds, words, buffer),
+    )
 }
 
 fn some_written(random: &mut Random, n: usize, d: usize) -> Written {
@@ -76,8 +76,7 @@ fn each_damage_of_a_file_has_its_number() {
     let mut random = Random::new(203);
     for _ in 0..300 {
         for number in FILE_DAMAGES {
-            let (n, d) = (random.between(1, 63), random.between(1, 8));
-            let file = random::damaged_file(&mut random, n, d, number);
+            let file = random::some_damaged_file(&mut random, number);
             assert_eq!(read_both(&mut random, &file, LARGEST).number, number, "{file:?}");
         }
     }
@@ -88,8 +87,7 @@ fn the_first_of_several_refusals_answers_when_reading() {
     let mut random = Random::new(204);
     let mut seen = Seen::default();
     for _ in 0..20_000 {
-        let (n, d) = (random.between(1, 64), random.between(1, 8));
-        let (n, d) = if random.chance(70) { (n.min(6), d.min(3)) } else { (n, d) };
+        let (n, d) = random::mostly_small_size(&mut random);
         let mut file = random::some_file(&mut random, n, d);
         random::damage_file_often(&mut random, &mut file, n, d);
         let lengths = if random.chance(30) { LARGEST.map(|most| random.between(0, most)) } else { LARGEST };
@@ -159,8 +157,7 @@ fn the_first_of_several_refusals_answers_when_writing() {
     let mut random = Random::new(208);
     let mut seen = Seen::default();
     for _ in 0..20_000 {
-        let (n, d) = (random.between(1, 64), random.between(1, 8));
-        let (n, d) = if random.chance(70) { (n.min(6), d.min(3)) } else { (n, d) };
+        let (n, d) = random::mostly_small_size(&mut random);
         let mut written = some_written(&mut random, n, d);
         for number in WRITTEN_DAMAGES {
             if random.chance(25) {

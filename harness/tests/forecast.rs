@@ -143,8 +143,7 @@ fn the_ceiling_is_looked_at_last() {
     let mut random = Random::new(1604);
     let mut seen = Seen::default();
     for _ in 0..20_000 {
-        let (n, d) = (random.between(1, 64), random.between(1, 8));
-        let (n, d) = if random.chance(70) { (n.min(6), d.min(3)) } else { (n, d) };
+        let (n, d) = random::mostly_small_size(&mut random);
         let case = random::troubled_case(&mut random, n, d);
         let forecast = forecast(&case.model);
         let ceiling = match random.between(0, 4) {

@@ -2,7 +2,7 @@
 //! the buffer, and that the joined set is the two sets side by side.
 
 use harness::ffi::page_share;
-use harness::lent::{file_length, Lent, Seen};
+use harness::lent::{file_length, made_both, Seen};
 use harness::random::{self, full, Random, FILE_DAMAGES};
 use harness::reference::nested::nested;
 use harness::reference::{put, set_of, word_of, Kind, Model, Tree};
@@ -21,12 +21,7 @@ fn join_beside(
     length: usize,
     make: impl FnOnce(&mut [u8]) -> Answer,
 ) -> Answer {
-    let mut buffer = Lent::new(length, |count| random.bytes(count));
-    let mut expected = buffer.clone();
-    let answer = ffi::join(first, second, buffer.slice());
-    assert_eq!(answer, make(expected.slice()), "{length} {first:?} {second:?}");
-    assert_eq!(buffer, expected, "{length} {first:?} {second:?}");
-    answer
+    made_both(random, (first, second), length, |buffer| ffi::join(first, second, buffer), make)
 }
 
 /// The length of the largest file.
@@ -349,8 +344,7 @@ fn the_first_files_refusal_comes_first_and_then_the_seconds() {
                 }
             }
             for later in FILE_DAMAGES {
-                let (n, d) = (random.between(1, 63), random.between(1, 8));
-                let other = random::damaged_file(&mut random, n, d, later);
+                let other = random::some_damaged_file(&mut random, later);
                 let room = random.between(0, LARGEST);
                 assert_eq!(join_both(&mut random, &damaged, &other, room), Answer::refused(number));
                 assert_eq!(join_both(&mut random, &other, &damaged, room), Answer::refused(later));

@@ -222,8 +222,7 @@ fn judging_by_lent_trees_is_refused_in_order() {
     let mut random = Random::new(610);
     let mut seen = Seen::default();
     for _ in 0..20_000 {
-        let (n, d) = (random.between(1, 64), random.between(1, 8));
-        let (n, d) = if random.chance(70) { (n.min(6), d.min(3)) } else { (n, d) };
+        let (n, d) = random::mostly_small_size(&mut random);
         let case = random::troubled_case(&mut random, n, d);
         let (mut u, mut v) = trees(&mut random, &case, 20);
         if random.chance(30) {

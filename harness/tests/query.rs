@@ -57,8 +57,7 @@ fn queries_are_refused_in_order() {
     let mut random = Random::new(303);
     let mut seen = Seen::default();
     for _ in 0..20_000 {
-        let (n, d) = (random.between(1, 64), random.between(1, 8));
-        let (n, d) = if random.chance(70) { (n.min(6), d.min(3)) } else { (n, d) };
+        let (n, d) = random::mostly_small_size(&mut random);
         let case = random::troubled_case(&mut random, n, d);
         let mut xs = arguments(&mut random, n, d);
         if random.chance(30) {

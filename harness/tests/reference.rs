@@ -571,8 +571,7 @@ fn each_damage_of_a_file_has_its_number() {
     let mut random = Random::new(109);
     for _ in 0..2000 {
         for number in FILE_DAMAGES {
-            let (n, d) = (random.between(1, 63), random.between(1, 8));
-            let file = random::damaged_file(&mut random, n, d, number);
+            let file = random::some_damaged_file(&mut random, number);
             assert_eq!(Model::from_file(&file), Err(number), "{file:?}");
         }
     }
