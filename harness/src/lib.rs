@@ -3,7 +3,7 @@
 //! - `ffi`: the engine's operations.
 //! - `reference`: an unrelated implementation of document 01, which the tests compare the engine with.
 //! - `random`: models, files, bounds and trees from a seed.
-//! - `lent`: what the tests lend to operations, what these make beside what the reference makes, and which answers came up.
+//! - `lending`: what the tests lend to operations, what these make beside what the reference makes, and which answers came up.
 //! - `words`: refusals in words, as the scripts and the join program say them.
 //! - `scripts`: running the programs' scripts.
 //! - `baseline`: the routes, the bench page and joining in Rust, which the benchmark compares the engine's speed with.
@@ -11,7 +11,7 @@
 mod answer;
 pub mod baseline;
 pub mod ffi;
-pub mod lent;
+pub mod lending;
 pub mod random;
 pub mod reference;
 pub mod scripts;

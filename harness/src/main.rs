@@ -12,7 +12,7 @@ use std::time::Instant;
 use harness::baseline::join::join;
 use harness::baseline::page::page;
 use harness::baseline::{by_levels, whole};
-use harness::lent::file_length;
+use harness::lending::file_length;
 use harness::random::{self, full, Density, Random};
 use harness::reference::{forecast, Kind, Model, Tree};
 use harness::{ffi, Answer, PROGRAM_CEILING};

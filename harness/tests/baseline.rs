@@ -3,7 +3,7 @@
 use harness::baseline::join::join;
 use harness::baseline::page::{met_lines, page};
 use harness::baseline::{by_levels, whole};
-use harness::lent::{file_length, Seen};
+use harness::lending::{file_length, Seen};
 use harness::random::{self, full, Case, Random};
 use harness::reference::forecast::forecasts;
 use harness::reference::{self, forecast, word_of, Model};

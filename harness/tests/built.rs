@@ -1,6 +1,6 @@
 //! Judging by built-in trees against the reference.
 
-use harness::lent::Seen;
+use harness::lending::Seen;
 use harness::random::{self, full, Case, Density, Random};
 use harness::reference::game::winning_lines;
 use harness::reference::nested::nested;

@@ -8,7 +8,7 @@ use std::path::{Path, PathBuf};
 use std::process::Command;
 use std::sync::OnceLock;
 
-use harness::lent::file_length;
+use harness::lending::file_length;
 use harness::random::{self, full, Density, Random};
 use harness::reference::model::Parts;
 use harness::reference::{forecast, Kind, Model};

@@ -1,6 +1,6 @@
 //! Reading and writing against the reference: answers, and every byte and word that was lent.
 
-use harness::lent::{file_length, made_both, Lent, Seen};
+use harness::lending::{file_length, made_both, Lent, Seen};
 use harness::random::{self, Random, Written, FILE_DAMAGES, WRITTEN_DAMAGES};
 use harness::reference::model::Parts;
 use harness::{ffi, reference, Answer};

@@ -3,7 +3,7 @@
 
 use std::time::{Duration, Instant};
 
-use harness::lent::{page_both, page_length, Seen};
+use harness::lending::{page_both, page_length, Seen};
 use harness::random::{self, full, Case, Random, FILE_DAMAGES};
 use harness::reference::forecast::{forecasts, forecasts_around, Size};
 use harness::reference::game::winning_lines;

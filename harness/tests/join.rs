@@ -2,7 +2,7 @@
 //! the buffer, and that the joined set is the two sets side by side.
 
 use harness::ffi::page_share;
-use harness::lent::{file_length, made_both, Seen};
+use harness::lending::{file_length, made_both, Seen};
 use harness::random::{self, full, Random, FILE_DAMAGES};
 use harness::reference::nested::nested;
 use harness::reference::{put, set_of, word_of, Kind, Model, Tree};

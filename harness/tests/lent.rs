@@ -1,6 +1,6 @@
 //! Judging by lent trees against the reference.
 
-use harness::lent::Seen;
+use harness::lending::Seen;
 use harness::random::{self, full, Case, Random};
 use harness::reference::nested::nested;
 use harness::reference::tree::lower_bound_model;

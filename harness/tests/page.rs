@@ -1,7 +1,7 @@
 //! The bench page against the reference, which lays it out with Rust's own formatting: answers, and every byte of the buffer.
 
 use harness::ffi::{page_of, page_share};
-use harness::lent::{page_beside, page_both, page_length, Seen};
+use harness::lending::{page_beside, page_both, page_length, Seen};
 use harness::random::{self, full, Random, FILE_DAMAGES};
 use harness::reference::forecast::forecasts;
 use harness::reference::{forecast, page_text, put};

@@ -1,6 +1,6 @@
 //! Judging by plain rounds against the reference.
 
-use harness::lent::Seen;
+use harness::lending::Seen;
 use harness::random::{self, full, Case, Random};
 use harness::reference::game::winning_lines;
 use harness::reference::nested::nested;

@@ -3,7 +3,7 @@
 //! pairs of files, 64 lines and 65, files that are too long, empty or not there. What all three say of an input that cannot be read and of an
 //! output that cannot be written.
 
-use harness::lent::Seen;
+use harness::lending::Seen;
 use harness::random::{self, full, Random};
 use harness::reference::forecast::{forecasts_around, over};
 use harness::reference::met::{chain, with_one_good_line};

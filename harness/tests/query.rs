@@ -1,7 +1,7 @@
 //! One query against the reference.
 
 use harness::ffi;
-use harness::lent::Seen;
+use harness::lending::Seen;
 use harness::random::{self, full, Random};
 use harness::reference::{self, Kind};
 

@@ -1,4 +1,4 @@
-// The operations for C and Rust to call: each fills six words with its answer (include/solver.h).
+// The operations for C, C++ and Rust to call: each fills six words with its answer (include/solver.h).
 ghost use mathlib.Core.Path.{_≡_};
 ghost use lib.ListN.{length};
 ghost use Rattle.system.specs.System.{systemOf};

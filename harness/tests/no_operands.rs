@@ -1,6 +1,6 @@
-//! Idle lines, those without operands (request W2), in every operation: an "any" of none never holds, an "all" of none always does.
+//! Lines without operands (request W2), here called idle, in every operation: an "any" of none never holds, an "all" of none always does.
 
-use harness::lent::{file_length, page_length};
+use harness::lending::{file_length, page_length};
 use harness::random::{self, full, Case, Random};
 use harness::reference::{forecast, Kind, Model, Operand};
 use harness::{ffi, Answer, PROGRAM_CEILING};
