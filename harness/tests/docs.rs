@@ -94,24 +94,19 @@ fn damages() -> Vec<Damage> {
             "-- Anew.\n",
             "the table of files lacks crates/solver/proofs/Anew",
         ),
-        // The lines that a reader is asked for: an import is none.
+        // The lines that a reader is asked for.
         damage(
             "crates/trees/specs/Fit.antt",
             "",
-            "use lib.Dec.{eqb}\n\n-- one line more\n",
+            "-- one line more\n",
             "`trees/specs/Fit` asks for 15 lines, and not for 14",
         ),
-        damage(
-            "docs/PROVED.md",
-            "1,058 lines in all",
-            "1,057 lines in all",
-            "ask for 1,058 lines in all, and not for 1,057",
-        ),
+        damage("docs/PROVED.md", " lines in all", "0 lines in all", "lines in all, and not for"),
         // The stored run, a figure, and what the doc quotes.
         damage(
             "docs/benchmark/run.txt",
-            "built     8      4 sparse       441  2.81 us",
-            "built     8      4 sparse       441  1.81 us",
+            "built     8      4 sparse",
+            "built     9      4 sparse",
             "docs/benchmark/time-by-lines.svg:0: is not what harness/figures.py draws",
         ),
         damage(
@@ -122,8 +117,8 @@ fn damages() -> Vec<Damage> {
         ),
         damage(
             "docs/BENCHMARK.md",
-            "32      16 held",
-            "32       8 held",
+            "its stack in KiB",
+            "its stack in KB",
             "quotes what the stored run does not have",
         ),
         damage(
@@ -137,13 +132,27 @@ fn damages() -> Vec<Damage> {
     ]
 }
 
+/// Changes that are none to the script: an import and a blank line are not asked of a reader, and 200 characters are few enough.
+fn harmless() -> [(&'static str, String); 2] {
+    [
+        ("crates/trees/specs/Fit.antt", "use lib.Dec.{eqb}\n\n".to_string()),
+        ("docs/MANUAL.md", format!("{}\n", "é".repeat(200))),
+    ]
+}
+
 #[test]
 fn each_damage_is_noticed() {
     let folder = PathBuf::from(env!("CARGO_TARGET_TMPDIR")).join("docs");
     let _ = fs::remove_dir_all(&folder);
     copy(Path::new(&root("")), &folder);
-    let (content, said) = checked(&folder);
-    assert!(content, "{said}");
+    for (file, more) in harmless() {
+        let path = folder.join(file);
+        let whole = fs::read_to_string(&path).expect("it is there");
+        fs::write(&path, whole.clone() + &more).expect("it is written");
+        let (content, said) = checked(&folder);
+        assert!(content, "{said}");
+        fs::write(&path, whole).expect("it is put back");
+    }
     for Damage { file, replaced, by, says } in damages() {
         let path = folder.join(file);
         let whole = fs::read_to_string(&path).ok();
