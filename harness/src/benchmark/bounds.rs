@@ -46,3 +46,20 @@ impl Largest {
         all
     }
 }
+
+#[cfg(test)]
+mod tests {
+    use super::*;
+
+    #[test]
+    fn each_bound_is_held_up_to_its_most_and_no_further() {
+        for (bound, _, most) in BOUNDS {
+            let mut largest = Largest::default();
+            largest.note(bound, most);
+            assert!(largest.print());
+            largest.note(bound, most * 1.01);
+            largest.note(bound, 0.0);
+            assert!(!largest.print());
+        }
+    }
+}
