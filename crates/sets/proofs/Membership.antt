@@ -21,43 +21,24 @@ pub member-digit : (x i : ℕ) (t : Bool) → isMember x i ≡ t → digit x i �
 member-digit x i true e = eqb-true (digit x i) 1 e
 member-digit x i false e = let ne : digit x i ≡ 1 → ⊥ = eqb-false (digit x i) 1 e in omega arith
 
--- digits are 0 or 1
-
-small : (x i : ℕ) → digit x i < 2
-small x i = omega arith
-
-min-both : (x y : ℕ) → x < 2 → y < 2 → eqb (min x y) 1 ≡ (eqb x 1 && eqb y 1)
-min-both zero zero h l = refl
-min-both zero (suc zero) h l = refl
-min-both (suc zero) zero h l = refl
-min-both (suc zero) (suc zero) h l = refl
-min-both (suc (suc x)) y h l = absurd (omega arith)
-min-both zero (suc (suc y)) h l = absurd (omega arith)
-min-both (suc zero) (suc (suc y)) h l = absurd (omega arith)
-
-max-either : (x y : ℕ) → x < 2 → y < 2 → eqb (max x y) 1 ≡ (eqb x 1 || eqb y 1)
-max-either zero zero h l = refl
-max-either zero (suc zero) h l = refl
-max-either (suc zero) zero h l = refl
-max-either (suc zero) (suc zero) h l = refl
-max-either (suc (suc x)) y h l = absurd (omega arith)
-max-either zero (suc (suc y)) h l = absurd (omega arith)
-max-either (suc zero) (suc (suc y)) h l = absurd (omega arith)
-
-differ-one : (x y : ℕ) → x < 2 → y < 2 → (eqb (differ x y) 1 ≡ cond (eqb x 1) (not (eqb y 1)) (eqb y 1)) × (differ x y < 2)
-differ-one zero zero h l = (refl, omega arith)
-differ-one zero (suc zero) h l = (refl, omega arith)
-differ-one (suc zero) zero h l = (refl, omega arith)
-differ-one (suc zero) (suc zero) h l = (refl, omega arith)
-differ-one (suc (suc x)) y h l = absurd (omega arith)
-differ-one zero (suc (suc y)) h l = absurd (omega arith)
-differ-one (suc zero) (suc (suc y)) h l = absurd (omega arith)
+-- digits are 0 or 1: what holds of these holds of the digits of any two sets
+by-digits : (P : ℕ → ℕ → Type 0) → P 0 0 → P 0 1 → P 1 0 → P 1 1 → (a b i : ℕ) → P (digit a i) (digit b i)
+by-digits P none second first both a b i = go (digit a i) (digit b i) (omega arith) (omega arith)
+  where
+    go : (x y : ℕ) → x < 2 → y < 2 → P x y
+    go zero zero h l = none
+    go zero (suc zero) h l = second
+    go (suc zero) zero h l = first
+    go (suc zero) (suc zero) h l = both
+    go (suc (suc x)) y h l = absurd (omega arith)
+    go zero (suc (suc y)) h l = absurd (omega arith)
+    go (suc zero) (suc (suc y)) h l = absurd (omega arith)
 
 pub member-meet : (a b i : ℕ) → isMember (intersection a b) i ≡ (isMember a i && isMember b i)
-member-meet a b i = ap (λ (x : ℕ). eqb x 1) (digit-meet a b i) ∙ min-both (digit a i) (digit b i) (small a i) (small b i)
+member-meet a b i = ap (λ (x : ℕ). eqb x 1) (digit-meet a b i) ∙ by-digits (λ x y. eqb (min x y) 1 ≡ (eqb x 1 && eqb y 1)) refl refl refl refl a b i
 
 pub member-join : (a b i : ℕ) → isMember (union a b) i ≡ (isMember a i || isMember b i)
-member-join a b i = ap (λ (x : ℕ). eqb x 1) (digit-join a b i) ∙ max-either (digit a i) (digit b i) (small a i) (small b i)
+member-join a b i = ap (λ (x : ℕ). eqb x 1) (digit-join a b i) ∙ by-digits (λ x y. eqb (max x y) 1 ≡ (eqb x 1 || eqb y 1)) refl refl refl refl a b i
 
 -- a member of both, and of one or the other
 pub in-both : (a b i : ℕ) → isMember a i ≡ true → isMember b i ≡ true → isMember (intersection a b) i ≡ true
@@ -73,9 +54,9 @@ in-either a b i h = go (isMember a i) refl
 -- the lines in one of two sets and not in both
 pub member-differ : (a b i : ℕ) → isMember (bitXor a b) i ≡ cond (isMember a i) (not (isMember b i)) (isMember b i)
 member-differ a b i =
-    let d = differ-one (digit a i) (digit b i) (small a i) (small b i) in
-    let e : digit (bitXor a b) i ≡ differ (digit a i) (digit b i) = omega (arith, xor-shr a b i, xor-step (a / 2 ^ i) (b / 2 ^ i), d .1) in
-    ap (λ (x : ℕ). eqb x 1) e ∙ d .0
+    let small = by-digits (λ x y. differ x y < 2) (omega arith) (omega arith) (omega arith) (omega arith) a b i in
+    let e : digit (bitXor a b) i ≡ differ (digit a i) (digit b i) = omega (arith, xor-shr a b i, xor-step (a / 2 ^ i) (b / 2 ^ i), small) in
+    ap (λ (x : ℕ). eqb x 1) e ∙ by-digits (λ x y. eqb (differ x y) 1 ≡ cond (eqb x 1) (not (eqb y 1)) (eqb y 1)) refl refl refl refl a b i
 
 -- the word of one line
 
