@@ -1,6 +1,6 @@
 -- The line that a loop over lines looks at: the lowest of the rest. Its word for a level is there, and what a mask of that word finds.
 -- Assumes nothing.
-use mathlib.Core.Bool.{Bool, true, false, cond, not, _&&_}
+use mathlib.Core.Bool.{Bool, true, false, not}
 use mathlib.Core.List.{List}
 use mathlib.Core.Path.{_≡_, refl, sym, _∙_, ap}
 use Prim.Native.Nat.{ℕ, _+_, _-_, _*_, _^_, _≤_, _<_}
@@ -61,19 +61,11 @@ module _ {file : List ℕ} {m : Model} (laid : LaidOut file m) {k : ℕ} (l : k 
   same-bits : {lines : ℕ} → lines < 2 ^ m .lines → (x i : ℕ) → isMember lines i ≡ true → masked file at line x i ≡ selected 64 (getD (wordsOf (systemIn file m) i) k 0) x
   same-bits {lines} few x i e = ap (λ (w : ℕ). selected 64 w x) (word-place (m .lines) (m .levels) file i k at line (member-below (m .lines) lines i few e) l ea el)
 
-  -- what holds of them, and how many are set
-  pub in-lines : {lines : ℕ} → lines < 2 ^ m .lines → (x i : ℕ) (p : List Bool → Bool)
-      → (isMember lines i && p (masked file at line x i)) ≡ (isMember lines i && p (selected 64 (getD (wordsOf (systemIn file m) i) k 0) x))
-  in-lines {lines} few x i p = go (isMember lines i) refl
+  -- so what is asked of them is the same, where it is nothing of any other line
+  pub in-lines : {A : Type 0} {lines : ℕ} → lines < 2 ^ m .lines → (x i : ℕ) (f : Bool → List Bool → A) → ((bs cs : List Bool) → f false bs ≡ f false cs)
+      → f (isMember lines i) (masked file at line x i) ≡ f (isMember lines i) (selected 64 (getD (wordsOf (systemIn file m) i) k 0) x)
+  in-lines {A} {lines} few x i f none = go (isMember lines i) refl
     where
-      go : (t : Bool) → isMember lines i ≡ t → (t && p (masked file at line x i)) ≡ (t && p (selected 64 (getD (wordsOf (systemIn file m) i) k 0) x))
-      go true e = ap p (same-bits few x i e)
-      go false e = refl
-
-  pub in-lines-count : {lines : ℕ} → lines < 2 ^ m .lines → (x i : ℕ)
-      → cond (isMember lines i && true) (countSet (masked file at line x i)) 0 ≡ cond (isMember lines i) (countSet (selected 64 (getD (wordsOf (systemIn file m) i) k 0) x)) 0
-  in-lines-count {lines} few x i = go (isMember lines i) refl
-    where
-      go : (t : Bool) → isMember lines i ≡ t → cond (t && true) (countSet (masked file at line x i)) 0 ≡ cond t (countSet (selected 64 (getD (wordsOf (systemIn file m) i) k 0) x)) 0
-      go true e = ap countSet (same-bits few x i e)
-      go false e = refl
+      go : (t : Bool) → isMember lines i ≡ t → f t (masked file at line x i) ≡ f t (selected 64 (getD (wordsOf (systemIn file m) i) k 0) x)
+      go true e = ap (f true) (same-bits few x i e)
+      go false e = none _ _

@@ -60,7 +60,7 @@ at-line : (c : tie.In-loop Inv-loop μ-loop) →
     Looked (length (now (z .file))) (z .m .lines) (c .before .before .before .level-words .result) (8 * z .m .levels) rest (trailingZeros 64 rest)
 at-line c =
     let start = c .before .before .before .before .before in
-    looked (start .pre .0 .laid-out) (start .pre .1 .0) (c .before .before .before .level-words .ensures) refl (start .pre .1 .1) (c .before .loop .rest) (c .before .loop .inv .some .few) (c .loop-test .taken)
+    looked (start .pre .0 .laid-out) (start .pre .1 .0) (c .before .before .before .level-words .ensures) refl (start .pre .1 .1) (c .before .loop .rest) (c .before .loop .inv .some .passed .few) (c .loop-test .taken)
 
 cast-i : tie.Need-cast-i Inv-loop μ-loop
 cast-i c = omega (arith, at-line c .low .low)
@@ -194,8 +194,8 @@ returns c =
     let hit = found-all _ (z .lines) (l .hit) (rw end at (l .inv .some)) in
     let lowered = found-all _ (z .lines) (l .lowered) (rw end at (l .inv .part)) in (
       (λ i. member-differ (l .hit) (l .lowered) i ∙ rw (hit i, lowered i) (all-told (isMember (z .lines) i) _ _)
-          ∙ in-lines (start .pre .0 .laid-out) (start .pre .1 .0) begin refl (start .pre .1 .1) (z .x) i (all-of (getD (now (z .needs)) i 0))),
-      (λ i. lowered i ∙ in-lines (start .pre .0 .laid-out) (start .pre .1 .0) begin refl (start .pre .1 .1) (z .x) i (part-of (getD (now (z .needs)) i 0))),
+          ∙ in-lines (start .pre .0 .laid-out) (start .pre .1 .0) begin refl (start .pre .1 .1) (z .x) i (λ t bits. t && all-of (getD (now (z .needs)) i 0) bits) (λ bs cs. refl)),
+      (λ i. lowered i ∙ in-lines (start .pre .0 .laid-out) (start .pre .1 .0) begin refl (start .pre .1 .1) (z .x) i (λ t bits. t && part-of (getD (now (z .needs)) i 0) bits) (λ bs cs. refl)),
     )
 
 pub meeting-spec : {M : Type 1} → statement M

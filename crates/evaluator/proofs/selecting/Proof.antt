@@ -2,7 +2,7 @@
 -- The measure is the set of the lines left.
 -- Assumes nothing.
 use denote.Ref.{now}
-use mathlib.Core.Bool.{Bool, not}
+use mathlib.Core.Bool.{Bool, not, _&&_}
 use mathlib.Core.List.{List}
 use mathlib.Core.Path.{_≡_, refl, _∙_}
 use Prim.Native.Nat.{ℕ, _*_}
@@ -45,7 +45,7 @@ at-line : (c : tie.In-loop Inv-loop μ-loop) →
     Looked (length (now (z .file))) (z .m .lines) (c .before .before .before .level-words .result) (8 * z .m .levels) rest (trailingZeros 64 rest)
 at-line c =
     let start = c .before .before .before .before .before in
-    looked (start .pre .0 .laid-out) (start .pre .1 .0) (c .before .before .before .level-words .ensures) refl (start .pre .1 .1) (c .before .loop .rest) (c .before .loop .inv .few) (c .loop-test .taken)
+    looked (start .pre .0 .laid-out) (start .pre .1 .0) (c .before .before .before .level-words .ensures) refl (start .pre .1 .1) (c .before .loop .rest) (c .before .loop .inv .passed .few) (c .loop-test .taken)
 
 cast-i : tie.Need-cast-i Inv-loop μ-loop
 cast-i c = omega (arith, at-line c .low .low)
@@ -90,7 +90,7 @@ returns c =
     let z = start .args in
     let end : c .before .loop .rest ≡ 0 = c .loop-test .left in
     (λ i. found-all _ (z .lines) (c .before .loop .found) (rw end at (c .before .loop .inv)) i
-    ∙ in-lines (start .pre .0 .laid-out) (start .pre .1 .0) (c .before .before .before .level-words .ensures) refl (start .pre .1 .1) (z .x) i any)
+    ∙ in-lines (start .pre .0 .laid-out) (start .pre .1 .0) (c .before .before .before .level-words .ensures) refl (start .pre .1 .1) (z .x) i (λ t bits. t && any bits) (λ bs cs. refl))
 
 pub selecting-spec : {M : Type 1} → statement M
 selecting-spec =
