@@ -1,6 +1,6 @@
 -- What the arguments of the outer levels come to, as it is carried: with none known, with one level's more, and with all.
 -- Assumes nothing.
-use mathlib.Core.Bool.{Bool, true, false, true≢false, cond, not, _&&_, _||_}
+use mathlib.Core.Bool.{Bool, true, false, true≢false, cond, not, _&&_, _||_, and-true}
 use mathlib.Core.List.{List, [], _∷_}
 use mathlib.Core.Path.{_≡_, refl, sym, _∙_, ap}
 use Prim.Native.Nat.{ℕ, suc, _-_, _^_, _<_}
@@ -21,7 +21,6 @@ use Rattle.evaluator.specs.ByLevels.{Decided, Needs, Carried, Lowered, i
 use Rattle.evaluator.specs.declared.Pending.{Pending}
 use Rattle.system.proofs.LineSets.{member-set}
 use Rattle.system.proofs.Monotone.{set-below}
-use Rattle.evaluator.proofs.Conjunction.{and-true}
 use Rattle.evaluator.proofs.Needs.{left-out, decides, changed}
 use Rattle.evaluator.proofs.OuterLevels.{outer-none, outer-all, open-none, needs-none, needs-more, next-set}
 

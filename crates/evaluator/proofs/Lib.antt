@@ -1,4 +1,3 @@
-pub mod Conjunction
 pub mod FoundLines
 pub mod LookedLines
 pub mod Needs

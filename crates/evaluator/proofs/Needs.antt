@@ -2,7 +2,7 @@
 -- operands differ from that value as its kind needs (`value-needs`); a kind is a case of it. So what a line still needs falls by the operands of each
 -- level, and the line is decided once it needs nothing more.
 -- Assumes nothing.
-use mathlib.Core.Bool.{Bool, true, false, cond, not, true≢false, _&&_, _||_, Bool·beq}
+use mathlib.Core.Bool.{Bool, true, false, cond, not, true≢false, _&&_, _||_, Bool·beq, and-false}
 use mathlib.Core.List.{List, [], _∷_, _++_}
 use mathlib.Core.Path.{_≡_, refl, sym, _∙_, ap, ap₂}
 use Prim.Native.Nat.{ℕ, zero, suc, _+_, _-_, _≤_, _<_}
@@ -14,7 +14,6 @@ use Rattle.sets.specs.Set.{isMember, full}
 use Rattle.sets.proofs.Membership.{member-differ, member-full}
 use Rattle.system.specs.Query.{any, all, countSet, valueOf, selected}
 use Rattle.evaluator.specs.ByLevels.{needed}
-use Rattle.evaluator.proofs.Conjunction.{and-false}
 
 -- two Booleans that differ: a value that changes, or does not
 abbrev pub changed : Bool → Bool → Bool

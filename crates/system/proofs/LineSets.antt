@@ -1,6 +1,6 @@
 -- Sets that are made line by line: with one line more, who is in them, and their digits from a line on.
 -- Assumes nothing.
-use mathlib.Core.Bool.{Bool, true, false, cond, _&&_, _||_}
+use mathlib.Core.Bool.{Bool, true, false, cond, _&&_, _||_, and-true, and-false, or-false}
 use mathlib.Core.Path.{_≡_, refl, sym, _∙_, ap}
 use Prim.Native.Nat.{ℕ, zero, suc, _+_, _*_, _/_, _^_, _≤_, _<_}
 use native.Mathlib.Nat.{div-eq-of-lt, lt-of-le-of-lt, lt-of-lt-of-le}
@@ -40,15 +40,6 @@ member-set (suc n) p i = member-join (setOf n p) (cond (p n) (2 ^ n) 0) i ∙ rw
     one true = member-power n i
     one false = member-empty i
 
-    none : (s t : Bool) → (s || (t && false)) ≡ s
-    none true t = refl
-    none false true = refl
-    none false false = refl
-
-    last : (t : Bool) → (t && true) ≡ t
-    last true = refl
-    last false = refl
-
     before : (t : Bool) → ltb i n ≡ t → (i ≡ n → ⊥) → ltb i (suc n) ≡ t
     before true e ne = lt-ltb i (suc n) (omega (arith, ltb-true i n e))
     before false e ne = le-ltb i (suc n) (omega (arith, ltb-false i n e))
@@ -56,8 +47,8 @@ member-set (suc n) p i = member-join (setOf n p) (cond (p n) (2 ^ n) 0) i ∙ rw
     go : (t : Bool) → eqb i n ≡ t → ((ltb i n && p i) || isMember (cond (p n) (2 ^ n) 0) i) ≡ (ltb i (suc n) && p i)
     go true e =
         let same : i ≡ n = eqb-true i n e in
-        rw (one (p n), e, le-ltb i n (omega arith), lt-ltb i (suc n) (omega arith), last (p n)) (ap p (sym same))
-    go false e = rw (one (p n), e, before (ltb i n) refl (eqb-false i n e)) (none (ltb i n && p i) (p n))
+        rw (one (p n), e, le-ltb i n (omega arith), lt-ltb i (suc n) (omega arith), and-true (p n)) (ap p (sym same))
+    go false e = rw (one (p n), e, before (ltb i n) refl (eqb-false i n e), and-false (p n)) (or-false (ltb i n && p i))
 
 -- Its digits from line i on are those from the next line on, and the one of line i. They fit 64 bits.
 pub digits-from : (n : ℕ) (p : ℕ → Bool) (i : ℕ) (t : Bool) → i < n → p i ≡ t → setOf n p / 2 ^ i ≡ 2 * (setOf n p / 2 ^ suc i) + cond t 1 0

@@ -2,7 +2,7 @@
 -- a part of it. The measure is the set of the lines left.
 -- Assumes nothing.
 use denote.Ref.{now}
-use mathlib.Core.Bool.{Bool, true, false, cond, not, _&&_}
+use mathlib.Core.Bool.{Bool, true, false, cond, not, _&&_, and-true, and-false}
 use mathlib.Core.List.{List}
 use mathlib.Core.Path.{_≡_, refl, sym, _∙_, ap}
 use mathlib.Core.Logic.{⊎-elim}
@@ -18,7 +18,6 @@ use Rattle.sets.specs.Set.{isMember, union, intersection, members}
 use Rattle.sets.proofs.Members.{members-empty, members-some}
 use Rattle.sets.proofs.Membership.{member-differ}
 use Rattle.system.specs.Query.{countSet}
-use Rattle.evaluator.proofs.Conjunction.{and-true, and-false}
 use Rattle.evaluator.proofs.FoundLines.{FoundSoFar, found-none, found-all, found-same, found-one}
 use Rattle.evaluator.proofs.LookedLines.{masked, count-masked, Looked, others-fewer, looked, in-lines}
 use Rattle.evaluator.proofs.meeting.Statement.{statement}
