@@ -6,6 +6,7 @@ use mathlib.Core.Bool.{Bool, true, false, cond, not, true≢false, _&&_, _||_, B
 use mathlib.Core.List.{List, [], _∷_, _++_}
 use mathlib.Core.Path.{_≡_, refl, sym, _∙_, ap, ap₂}
 use Prim.Native.Nat.{ℕ, zero, suc, _+_, _-_, _≤_, _<_}
+use native.Mathlib.Nat.{add-comm}
 use native.Mathlib.Omega.{arith}
 use borrow.Author.Tests.{ne-eqb, le-leb, lt-leb, leb-true, leb-false}
 use lib.Bits.{bitXor}
@@ -13,6 +14,7 @@ use lib.Dec.{eqb, leb}
 use Rattle.sets.specs.Set.{isMember, full}
 use Rattle.sets.proofs.Membership.{member-differ, member-full}
 use Rattle.system.specs.Query.{any, all, countSet, valueOf, selected}
+use Rattle.system.proofs.Masks.{still-needed}
 use Rattle.evaluator.specs.ByLevels.{needed}
 
 -- two Booleans that differ: a value that changes, or does not
@@ -72,11 +74,7 @@ pub record Step (kind t : ℕ) (outer new : List Bool) (d : Bool) : Type 0 where
 -- of a line that needs n, a of its operands outside and c of the new ones differ
 enough : (n a c : ℕ) (q : Bool) → leb n a ≡ q → leb n (c + a) ≡ (q || leb (n - a) c)
 enough n a c true e = le-leb n (c + a) (omega (arith, leb-true n a e))
-enough n a c false e = go (leb (n - a) c) refl
-  where
-    go : (r : Bool) → leb (n - a) c ≡ r → leb n (c + a) ≡ leb (n - a) c
-    go true f = le-leb n (c + a) (omega (arith, leb-true (n - a) c f)) ∙ sym f
-    go false f = lt-leb n (c + a) (omega (arith, leb-false (n - a) c f)) ∙ sym f
+enough n a c false e = ap (leb n) (add-comm c a) ∙ still-needed n a c
 
 module _ (kind t : ℕ) (h : VoteNeeds kind t) (outer new : List Bool) where
   abbrev initial : Bool

@@ -3,8 +3,8 @@
 use mathlib.Core.Bool.{Bool, not, _&&_, _||_}
 use mathlib.Core.List.{List, [], _++_}
 use mathlib.Core.Path.{_≡_, refl, _∙_, ap}
-use Prim.Native.Nat.{ℕ, zero, suc, _+_, _-_, _*_, _^_, _<_}
-use native.Mathlib.Nat.{add-zero, sub-zero, sub-self}
+use Prim.Native.Nat.{ℕ, zero, suc, _+_, _-_, _*_, _^_, _≤_, _<_}
+use native.Mathlib.Nat.{add-zero, sub-zero}
 use native.Mathlib.Numerals.{add-one}
 use native.Mathlib.Omega.{arith}
 use lib.Dec.{eqb, leb}
@@ -16,17 +16,20 @@ use Rattle.numbers.specs.Numbers.{numberAt, wordsFrom}
 use Rattle.system.proofs.Masks.{any-append, all-append, count-append, any-selected, all-selected, count-selected}
 
 module _ (file : List ℕ) (at d : ℕ) (xs : List ℕ) where
-  -- the operands from level k + 1 on, for d words from the offset `at` on
+  -- the operands that d words from the offset `at` on select, and those from level k + 1 on
+  abbrev pub whole : List Bool
+  whole = operands (wordsFrom d (drop at file)) (take d xs)
+
   unfoldable pub from : ℕ → List Bool
   from k = operands (wordsFrom (d - k) (drop (at + 8 * k) file)) (take (d - k) (drop k xs))
 
-  pub from-start : from 0 ≡ operands (wordsFrom d (drop at file)) (take d xs)
+  pub from-start : from 0 ≡ whole
   unfolding from
   from-start = rw (sub-zero d, add-zero at)
 
-  pub from-end : from d ≡ []
+  pub from-end : (k : ℕ) → d ≤ k → from k ≡ []
   unfolding from wordsFrom operands
-  from-end = rw (sub-self d)
+  from-end k h = let none : d - k ≡ 0 = omega arith in rw none
 
   pub from-step : (k : ℕ) → k < d → k < length xs → from k ≡ selected 64 (numberAt file (at + 8 * k) 8) (getD xs k 0) ++ from (k + 1)
   unfolding from wordsFrom operands

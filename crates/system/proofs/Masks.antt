@@ -4,14 +4,14 @@
 use mathlib.Core.Bool.{Bool, true, false, cond, not, _&&_, _||_, or-assoc, and-assoc}
 use mathlib.Core.List.{List, [], _∷_, _++_}
 use mathlib.Core.Path.{_≡_, refl, sym, _∙_, ap, ap₂}
-use Prim.Native.Nat.{ℕ, zero, suc, _+_, _*_, _%_, _^_, min, _≤_, _<_}
+use Prim.Native.Nat.{ℕ, zero, suc, _+_, _-_, _*_, _%_, _^_, min, _≤_, _<_}
 use native.Mathlib.Nat.{mod-eq-of-lt, mod-lt, mod-one, one-mul}
 use native.Mathlib.Numerals.{one-add}
 use native.Mathlib.Omega.{arith}
-use borrow.Author.Tests.{eqb-true, eqb-false, eq-eqb, ne-eqb}
+use borrow.Author.Tests.{eqb-true, eqb-false, eq-eqb, ne-eqb, le-leb, lt-leb, leb-true, leb-false}
 use lib.Bits.{and-lt}
 use lib.Count.{ones-cat}
-use lib.Dec.{eqb}
+use lib.Dec.{eqb, leb}
 use lib.ListN.{length, getD, length-append}
 use lib.Pow.{mod-pow-add, pow-pos}
 use Rattle.sets.specs.Set.{isMember, intersection, isWithin, members}
@@ -35,6 +35,14 @@ count-append (b ∷ bs) cs = go b (countSet bs) (count-append bs cs)
     go : (t : Bool) {n : ℕ} (m : ℕ) → n ≡ m + countSet cs → cond t (suc n) n ≡ cond t (suc m) m + countSet cs
     go true m e = omega arith
     go false m e = e
+
+-- what is needed of two counts together is, less the one, needed of the other
+pub still-needed : (n a c : ℕ) → leb n (a + c) ≡ leb (n - a) c
+still-needed n a c = go (leb (n - a) c) refl
+  where
+    go : (t : Bool) → leb (n - a) c ≡ t → leb n (a + c) ≡ leb (n - a) c
+    go true e = le-leb n (a + c) (omega (arith, leb-true (n - a) c e)) ∙ sym e
+    go false e = lt-leb n (a + c) (omega (arith, leb-false (n - a) c e)) ∙ sym e
 
 -- a number's digits below m + 1 are those below m, where the digit m is 0, and more by 2 ^ m, where it is 1
 digit-zero : (y m : ℕ) → digit y m ≡ 0 → y % 2 ^ suc m ≡ y % 2 ^ m

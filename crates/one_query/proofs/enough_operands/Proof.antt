@@ -4,18 +4,19 @@ use denote.Ref.{now}
 use mathlib.Core.Bool.{Bool, true, false}
 use mathlib.Core.List.{List}
 use mathlib.Core.Path.{_≡_, refl, sym, _∙_, ap}
-use Prim.Native.Nat.{ℕ, _+_, _-_, _≤_, _<_}
+use Prim.Native.Nat.{ℕ, _+_, _-_, _≤_}
 use native.Mathlib.Omega.{arith}
 use borrow.Author.Needs.{needs}
-use borrow.Author.Tests.{le-leb, lt-leb, leb-true, leb-false, eqb-true, eqb-false}
+use borrow.Author.Tests.{le-leb, lt-leb, eqb-true, eqb-false}
 use lib.Dec.{eqb, leb}
 use Rattle.system.specs.Query.{countSet}
-use Rattle.one_query.proofs.Operands.{from, from-start, from-end, count-step}
+use Rattle.system.proofs.Masks.{still-needed}
+use Rattle.one_query.proofs.Operands.{whole, from, from-start, from-end, count-step}
 use Rattle.one_query.proofs.enough_operands.Statement.{statement}
 use Rattle.one_query.proofs.enough_operands.Tie as tie
 
 abbrev Inv-loop : tie.InvT-loop
-Inv-loop file at d xs t need₀ k₀ need k = (k ≤ d) × (need ≤ t) × (leb t (countSet (from file at d xs 0)) ≡ leb need (countSet (from file at d xs k)))
+Inv-loop file at d xs t need₀ k₀ need k = (k ≤ d) × (need ≤ t) × (leb t (countSet (whole file at d xs)) ≡ leb need (countSet (from file at d xs k)))
 
 abbrev μ-loop : tie.MeasureT-loop
 μ-loop file at d xs t need₀ k₀ need k = d - k
@@ -23,14 +24,6 @@ abbrev μ-loop : tie.MeasureT-loop
 -- the operands from level k + 1 on that are set
 abbrev rest : tie.Start Inv-loop μ-loop → ℕ → ℕ
 rest c k = countSet (from (now (c .args .file)) (c .args .at) (c .args .d) (now (c .args .xs)) k)
-
--- what c of a level leave to need
-still : (need c r : ℕ) → c < need → leb need (c + r) ≡ leb (need - c) r
-still need c r h = go (leb (need - c) r) refl
-  where
-    go : (t : Bool) → leb (need - c) r ≡ t → leb need (c + r) ≡ leb (need - c) r
-    go true e = le-leb need (c + r) (omega (arith, leb-true (need - c) r e)) ∙ sym e
-    go false e = lt-leb need (c + r) (omega (arith, leb-false (need - c) r e)) ∙ sym e
 
 -- of none, only nothing can be needed
 of-none : (need : ℕ) → leb need 0 ≡ eqb need 0
@@ -41,7 +34,7 @@ of-none need = go (eqb need 0) refl
     go false e = let ne : need ≡ 0 → ⊥ = eqb-false need 0 e in lt-leb need 0 (omega arith)
 
 loop-holds : tie.Need-loop-holds Inv-loop μ-loop
-loop-holds c = (omega arith, omega arith, refl)
+loop-holds c = (omega arith, omega arith, rw from-start)
 
 mul-u64-at : tie.Need-mul-u64-at Inv-loop μ-loop
 mul-u64-at c = search needs
@@ -77,9 +70,7 @@ returns : tie.Need-returns Inv-loop μ-loop
 returns c =
     let start = c .before .before .before .before .before .before .before .before in
     let l = c .before .before .before .before .before .loop in
-    let whole = from-start (now (start .args .file)) (start .args .at) (start .args .d) (now (start .args .xs)) in
-    sym (ap (λ (bits : List Bool). leb (start .args .t) (countSet bits)) (sym whole) ∙ l .inv .2
-    ∙ le-leb (l .need) (rest start (l .k)) (omega (arith, step (c .before), c .if1 .taken)))
+    sym (l .inv .2 ∙ le-leb (l .need) (rest start (l .k)) (omega (arith, step (c .before), c .if1 .taken)))
 
 sub-need : tie.Need-sub-need Inv-loop μ-loop
 sub-need c = search needs
@@ -92,23 +83,16 @@ loop-less c = search needs
 
 loop-again : tie.Need-loop-again Inv-loop μ-loop
 loop-again c =
-    let start = c .before .before .before .before .before .before .before .before in
     let l = c .before .before .before .before .before .loop in (
       omega arith,
       omega (arith, l .inv .1),
-      l .inv .2 ∙ ap (leb (l .need)) (step (c .before)) ∙ still (l .need) (c .before .member-count .result) (rest start (l .k + 1)) (c .if1 .left),
+      l .inv .2 ∙ ap (leb (l .need)) (step (c .before)) ∙ still-needed (l .need) (c .before .member-count .result) _,
     )
 
 returns-2 : tie.Need-returns-2 Inv-loop μ-loop
 returns-2 c =
-    let start = c .before .before .before .before in
     let l = c .before .loop in
-    let whole = from-start (now (start .args .file)) (start .args .at) (start .args .d) (now (start .args .xs)) in
-    let end : l .k ≡ start .args .d = omega arith in
-    sym (ap (λ (bits : List Bool). leb (start .args .t) (countSet bits)) (sym whole) ∙ l .inv .2
-    ∙ ap (λ (k : ℕ). leb (l .need) (rest start k)) end
-    ∙ ap (λ (bits : List Bool). leb (l .need) (countSet bits)) (from-end (now (start .args .file)) (start .args .at) (start .args .d) (now (start .args .xs)))
-    ∙ of-none (l .need))
+    sym (l .inv .2 ∙ ap (λ (bits : List Bool). leb (l .need) (countSet bits)) (from-end _ _ _ _ _ (c .loop-test .left)) ∙ of-none (l .need))
 
 pub enough-operands-spec : {M : Type 1} → statement M
 enough-operands-spec =
