@@ -150,3 +150,8 @@ operands-counted (w ∷ ws) [] h below = absurd (omega arith)
 operands-counted (w ∷ ws) (x ∷ xs) h below =
     length-append (selected 64 w x) (operands ws xs)
     ∙ ap₂ _+_ (selected-length 64 w x ∙ ap members (mod-eq-of-lt (below 0))) (operands-counted ws xs (omega arith) (λ k. below (suc k)))
+
+-- the operands of one word more
+pub operands-more : (ws : List ℕ) (w : ℕ) → operandCount (ws ++ w ∷ []) ≡ operandCount ws + members w
+operands-more [] w = omega arith
+operands-more (v ∷ ws) w = omega (arith, operands-more ws w)

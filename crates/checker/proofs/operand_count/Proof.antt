@@ -1,27 +1,18 @@
 -- `checker::operand_count` meets its contract: the count is that of the words passed. Each word's is a `u32`, so the sum of eight fits.
 -- Assumes nothing.
 use borrow.Author.Needs.{needs}
-use mathlib.Core.List.{List, [], _∷_, _++_}
 use mathlib.Core.Path.{_≡_, refl, _∙_, ap}
-use Prim.Native.Nat.{ℕ, _+_, _*_, _^_, _≤_, _-_}
+use Prim.Native.Nat.{ℕ, _*_, _^_, _≤_, _-_}
 use native.Mathlib.Omega.{arith}
 use lib.ListN.{drop}
 use lib.Seq.{drop-drop}
 use Rattle.sets.specs.Set.{members}
 use Rattle.system.specs.Query.{operandCount}
-use Rattle.numbers.specs.Numbers.{numberAt, wordsFrom}
+use Rattle.numbers.specs.Numbers.{wordsFrom}
 use Rattle.numbers.proofs.Codec.{words-more}
+use Rattle.system.proofs.Masks.{operands-more}
 use Rattle.checker.proofs.operand_count.Statement.{statement}
 use Rattle.checker.proofs.operand_count.Tie as tie
-
-count-append : (us vs : List ℕ) → operandCount (us ++ vs) ≡ operandCount us + operandCount vs
-count-append [] vs = omega arith
-count-append (u ∷ us) vs = omega (arith, count-append us vs)
-
--- one more word
-count-more : (file : List ℕ) (at k : ℕ)
-    → operandCount (wordsFrom (k + 1) (drop at file)) ≡ operandCount (wordsFrom k (drop at file)) + members (numberAt file (at + 8 * k) 8)
-count-more file at k = rw (words-more k (drop at file), count-append, drop-drop (8 * k) at file) (omega arith)
 
 abbrev Inv-loop : tie.InvT-loop
 Inv-loop file at d count₀ k₀ count k = (k ≤ d) × ((count ≤ 2 ^ 32 * k) × (count ≡ operandCount (wordsFrom k (drop at file))))
@@ -60,8 +51,10 @@ loop-again : tie.Need-loop-again Inv-loop μ-loop
 loop-again c =
     let start = c .before .before .before .before .before .args in
     let loop = c .before .before .before .loop in
-    let more = count-more (start .file .now) (start .at) (loop .k) in
-    (omega arith, (omega arith, omega (arith, more, c .member-count .ensures, ap members (c .before .u64-at .ensures))))
+    let file = start .file .now in (
+      omega arith,
+      (omega arith, rw (words-more (loop .k) (drop (start .at) file), operands-more, drop-drop (8 * loop .k) (start .at) file) (omega (arith, c .member-count .ensures, ap members (c .before .u64-at .ensures)))),
+    )
 
 returns : tie.Need-returns Inv-loop μ-loop
 returns c =

@@ -1,24 +1,17 @@
 -- `writer::operand_count` meets its contract: the count is that of the words passed. What a word adds fits 32 bits, so the sum fits.
 -- Assumes nothing.
-use mathlib.Core.List.{List, [], _∷_}
 use mathlib.Core.Path.{_≡_, refl, _∙_, ap}
-use Prim.Native.Nat.{ℕ, zero, suc, _+_, _*_, _-_, _^_, _≤_, _<_, zero-le}
+use Prim.Native.Nat.{ℕ, _*_, _-_, _^_, _≤_, zero-le}
 use native.Mathlib.Numerals.{add-one}
 use native.Mathlib.Omega.{arith}
 use borrow.Author.Needs.{needs}
 use denote.Ref.{now}
-use lib.ListN.{length, getD, take}
-use lib.Seq.{take-length}
-use Rattle.sets.specs.Set.{members}
+use lib.ListN.{length, take}
+use lib.Seq.{take-length, take-suc}
 use Rattle.system.specs.Query.{operandCount}
+use Rattle.system.proofs.Masks.{operands-more}
 use Rattle.writer.proofs.operand_count.Statement.{statement}
 use Rattle.writer.proofs.operand_count.Tie as tie
-
--- the operands of one more word
-count-more : (k : ℕ) (words : List ℕ) → k < length words → operandCount (take (suc k) words) ≡ operandCount (take k words) + members (getD words k 0)
-count-more k [] h = absurd (omega arith)
-count-more zero (w ∷ ws) h = omega arith
-count-more (suc k) (w ∷ ws) h = omega (arith, count-more k ws (omega arith))
 
 abbrev Inv-loop : tie.InvT-loop
 Inv-loop words count₀ k₀ count k = (k ≤ length words) × (count ≤ 2 ^ 32 * k) × (count ≡ operandCount (take k words))
@@ -55,8 +48,7 @@ loop-again c =
     let at-loop-test = c .before .before in
     let at-loop = at-loop-test .before in
     let words = now (at-loop .before .before .args .words) in
-    let more = count-more (at-loop .loop .k) words (at-loop-test .loop-test .taken) in
-    (omega arith, omega arith, rw add-one (omega (arith, more, c .member-count .ensures)))
+    (omega arith, omega arith, rw (add-one, take-suc words (at-loop .loop .k) 0 (at-loop-test .loop-test .taken), operands-more) (omega (arith, c .member-count .ensures)))
 
 returns : tie.Need-returns Inv-loop μ-loop
 returns c =
