@@ -5,7 +5,7 @@ use mathlib.Core.Bool.{false}
 use mathlib.Core.List.{List, _++_}
 use mathlib.Core.Path.{_≡_, refl, sym, _∙_, ap, ap₂, subst}
 use mathlib.Mathlib.Data.Bool.Basic.{or-eq-false-eq-eq-false-and-eq-false as neither}
-use Prim.Native.Nat.{ℕ, zero, suc, _+_, _*_, _^_, _≤_, _<_, min}
+use Prim.Native.Nat.{ℕ, _+_, _*_, _^_, _≤_, _<_, min}
 use native.Mathlib.Decide.{decLt}
 use native.Mathlib.Nat.{min-eq-left}
 use native.Mathlib.Omega.{arith}
@@ -31,6 +31,7 @@ use Rattle.model.specs.declared.layout.Reading.the-variants as reading
 use Rattle.sets.specs.Set.{full}
 use Rattle.sets.proofs.Order.{within-le}
 use Rattle.sets.proofs.Range.{full-below}
+use Rattle.model.proofs.Thresholds.{vote}
 use Rattle.model.proofs.Searches.{false-some, false-below}
 use Rattle.model.proofs.Lines.{every-length, thresholds-length}
 use Rattle.numbers.proofs.Codec.{words-length}
@@ -87,9 +88,7 @@ pub record Accepted (file : List ℕ) : Type 0 where
 
 -- a vote whose threshold fits it needs an operand
 vote-needs : (kind t count : ℕ) → misfits kind t count ≡ false → 2 ≤ kind → 1 ≤ t
-vote-needs zero t count fits h = absurd (omega arith)
-vote-needs (suc zero) t count fits h = absurd (omega arith)
-vote-needs (suc (suc k)) t count fits h = inside count t fits .0
+vote-needs kind t count fits h = inside count t (sym (vote kind t count h) ∙ fits) .0
 
 pub accepted : (file : List ℕ) → fileNumber file ≡ 0 → Accepted file
 unfolding fileNumber decode

@@ -16,9 +16,10 @@ use lib.ListN.{length, getD, take, drop, length-drop}
 use borrow.Author.Tests.{ltb-false}
 use Rattle.system.specs.System.{System}
 use Rattle.system.specs.Query.{wordsOf, operandCount}
-use Rattle.model.specs.Checks.{some, someBelow, misfits, thresholdMisfits}
+use Rattle.model.specs.Checks.{some, someBelow, thresholdMisfits}
 use Rattle.model.specs.Held.{systemIn}
 use Rattle.model.specs.File.{kindsAt, isOld, highestKind, every, sections}
+use Rattle.model.proofs.Thresholds.{no-vote}
 use Rattle.model.proofs.Searches.{below-false, some-index, false-some}
 use Rattle.model.proofs.Lines.{every-length}
 use Rattle.model.proofs.Places.{old-words, old-threshold}
@@ -43,12 +44,6 @@ every-one zero s h = refl
 every-one (suc n) [] h = absurd (omega arith)
 every-one (suc n) (x ∷ s) h = ap (λ (r : List ℕ). x ∷ r) (every-one n s (omega arith))
 
--- no line that is no vote misfits without a threshold
-unset-fits : (kind t count : ℕ) → kind ≤ 1 → t ≡ 0 → misfits kind t count ≡ false
-unset-fits zero t count h e = rw e
-unset-fits (suc zero) t count h e = rw e
-unset-fits (suc (suc k)) t count h e = absurd (omega arith)
-
 -- an old file
 module _ (n d : ℕ) (file : List ℕ) (old : isOld n d file ≡ true) where
   old-kinds : kindsAt d + n ≤ length file → take n (drop (kindsAt d) file) ≡ sections n d file .kinds
@@ -63,7 +58,7 @@ module _ (n d : ℕ) (file : List ℕ) (old : isOld n d file ≡ true) where
       (le-refl n)
       (λ i l.
       let kind = ltb-false 1 (getD (s .kinds) i 0) (false-some (ltb 1) (s .kinds) none i (rw (every-length _ n _) l)) in
-      unset-fits (getD (s .kinds) i 0) (getD (s .thresholds) i 0) (operandCount (wordsOf s i)) kind (old-threshold n d file i old))
+      no-vote (getD (s .kinds) i 0) (getD (s .thresholds) i 0) (operandCount (wordsOf s i)) (omega arith) ∙ rw (old-threshold n d file i old))
 
 -- a search with one number more: found before, or by it alone
 module _ (p : ℕ → Bool) (i : ℕ) {found next : Bool} (h : found ≡ someBelow i p) where

@@ -2,8 +2,8 @@
 -- Assumes nothing.
 use borrow.Author.Needs.{needs}
 use mathlib.Core.Logic.{⊎-elim}
-use mathlib.Core.Path.{_≡_, refl, sym, _∙_, ap, ap₂}
-use Prim.Native.Nat.{ℕ, zero, suc, _+_, _*_, _≤_, _<_}
+use mathlib.Core.Path.{_≡_, sym, _∙_, ap, ap₂}
+use Prim.Native.Nat.{ℕ, _+_, _*_, _≤_}
 use native.Mathlib.Omega.{arith}
 use denote.Ref.{now}
 use lib.ListN.{drop}
@@ -11,15 +11,11 @@ use Rattle.numbers.specs.Numbers.{wordsFrom}
 use Rattle.system.specs.Query.{wordsOf, operandCount}
 use Rattle.model.specs.Checks.{misfits}
 use Rattle.model.specs.Held.{systemIn}
+use Rattle.model.proofs.Thresholds.{no-vote}
 use Rattle.model.proofs.Sizes.{line-fits}
 use Rattle.model.proofs.Lines.{words-of}
 use Rattle.checker.proofs.line_misfits.Statement.{statement}
 use Rattle.checker.proofs.line_misfits.Tie as tie
-
-uncounted : (kind t count : ℕ) → kind < 2 → misfits kind t 0 ≡ misfits kind t count
-uncounted zero t count h = refl
-uncounted (suc zero) t count h = refl
-uncounted (suc (suc k)) t count h = absurd (omega arith)
 
 kind-requires : tie.Need-kind-requires
 kind-requires c κs = search needs
@@ -68,7 +64,7 @@ counted c t =
     let kind = c .before .kind .result in
     let words = words-of (start .args .m .lines) d file i (start .pre .1) in
     ⊎-elim
-    (λ w. ap (misfits kind t) (w .1) ∙ uncounted kind t _ (w .0 .taken))
+    (λ w. no-vote kind t _ (w .0 .taken) ∙ sym (no-vote kind t _ (w .0 .taken)))
     (λ w. ap (misfits kind t) (w .4 ∙ w .3 .ensures ∙ ap operandCount (ap (λ (at : ℕ). wordsFrom d (drop (at + 8 * (i * d)) file)) (w .1 .ensures) ∙ sym words)))
     (c .if1 .came)
 
