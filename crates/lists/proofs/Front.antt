@@ -35,6 +35,11 @@ front-part front new s l part a n b e next held wrote =
     ∙ append-nil (new ++ drop n (drop a s)) ∙ ap (λ (r : List ℕ). new ++ r) (drop-drop n a s ∙ ap (λ (j : ℕ). drop j s) next))
     ∙ sym (append-assoc front new (drop b s))
 
+-- the first i entries of src, which are all, in front by f, with what s holds from a, which is b, on behind them
+pub front-all : (f : List ℕ → List ℕ) (src s : List ℕ) {l : List ℕ} {i a b : ℕ} → i ≡ length src → a ≡ b → l ≡ f (take i src) ++ drop a s → l ≡ f src ++ drop b s
+front-all f src s all end held =
+    held ∙ ap₂ (λ (r : List ℕ) (j : ℕ). f r ++ drop j s) (ap (λ (j : ℕ). take j src) all ∙ take-length src) end
+
 -- all of src in front, as a copy says it
 pub all-copied : (src rest l : List ℕ) → l ≡ take (length src) src ++ rest → l ≡ src ++ rest
 all-copied src rest l copied = copied ∙ ap (λ (r : List ℕ). r ++ rest) (take-length src)

@@ -10,9 +10,10 @@ use native.Mathlib.Omega.{arith}
 use lib.Dec.{lit<}
 use lib.ListN.{length, getD, take, drop, length-append, length-take, length-drop}
 use lib.Seq.{take-suc, take-add, drop-drop, take-at, drop-at, length-take-le}
+use borrow.Rule.Slice.PartMut.{midOf, putMid}
 use Rattle.numbers.specs.Numbers.{little, numberAt, bytesOf, wordsFrom, wordBytes}
 use Rattle.lists.specs.Below.{AllBelow, none, more}
-use Rattle.lists.proofs.Front.{rest-whole}
+use Rattle.lists.proofs.Front.{rest-whole, front-part}
 use Rattle.lists.proofs.Below.{below-take, below-drop}
 
 -- the bytes of a number
@@ -146,6 +147,16 @@ word-bytes-more i ws h =
     ∙ ap wordBytes (take-suc ws i 0 h)
     ∙ word-bytes-append (take i ws) (getD ws i 0 ∷ [])
     ∙ ap (λ (bs : List ℕ). wordBytes (take i ws) ++ bs) (append-nil (bytesOf 8 (getD ws i 0)))
+
+-- One more word w is put: s is what the list held, l what it holds, and part what its rest from `at` on comes back as.
+pub word-stored :
+    (words s l part : List ℕ) (i at w : ℕ) → i < length words → at ≡ 8 * i → w ≡ getD words i 0 → l ≡ wordBytes (take i words) ++ drop at s
+    → part ≡ bytesOf 8 w ++ drop 8 (midOf at (length l - at) l) → putMid at (length l - at) l part ≡ wordBytes (take (i + 1) words) ++ drop (at + 8) s
+word-stored words s l part i at w h place is held wrote =
+    let front = wordBytes (take i words) in
+    let written : length front ≡ at = omega (arith, word-bytes-length (take i words), length-take-le i words (omega arith)) in
+    front-part front (bytesOf 8 w) s l part at 8 (at + 8) written refl held wrote
+    ∙ ap (λ (bs : List ℕ). bs ++ drop (at + 8) s) (ap (λ (x : ℕ). front ++ bytesOf 8 x) is ∙ sym (word-bytes-more i words h))
 
 pub words-of-bytes : (ws : List ℕ) → AllBelow (2 ^ 64) ws → (rest : List ℕ) → wordsFrom (length ws) (wordBytes ws ++ rest) ≡ ws
 unfolding wordsFrom wordBytes

@@ -1,14 +1,14 @@
 -- `encoder::put_lines` meets its contract: after i lines the slice begins with their two bytes each, and the rest is as it was.
 -- Assumes nothing.
-use mathlib.Core.List.{List, _++_}
-use mathlib.Core.Path.{_≡_, refl, _∙_, ap, ap₂}
+use mathlib.Core.List.{_++_}
+use mathlib.Core.Path.{_≡_, refl, ap}
 use Prim.Native.Nat.{ℕ, _-_, _*_, _≤_, zero-le}
 use native.Mathlib.Omega.{arith}
 use denote.Ref.{now}
 use borrow.Author.Needs.{needs}
 use lib.ListN.{length, take, drop, length-set}
-use lib.Seq.{take-length}
 use Rattle.model.specs.File.{lineRecords}
+use Rattle.lists.proofs.Front.{front-all}
 use Rattle.encoder.proofs.LineRecords.{records-stored}
 use Rattle.encoder.proofs.put_lines.Statement.{statement}
 use Rattle.encoder.proofs.put_lines.Tie as tie
@@ -69,8 +69,7 @@ returns c =
     let start = c .before .before in
     let kinds = now (start .args .kinds) in
     let all : c .before .loop .i ≡ length kinds = omega arith in
-    c .before .loop .inv .1
-    ∙ ap₂ (λ (ks : List ℕ) (n : ℕ). lineRecords ks (now (start .args .thresholds)) ++ drop (2 * n) (now (start .args .s))) (ap (λ (n : ℕ). take n kinds) all ∙ take-length kinds) all
+    front-all (λ ks. lineRecords ks (now (start .args .thresholds))) kinds (now (start .args .s)) all (ap (λ (n : ℕ). 2 * n) all) (c .before .loop .inv .1)
 
 pub put-lines-spec : {M : Type 1} → statement M
 put-lines-spec =

@@ -1,16 +1,16 @@
 -- `joined_file::put_line_records` meets its contract: after i lines the slice begins with their two bytes each, and the rest is as it was.
 -- Assumes nothing.
-use mathlib.Core.List.{List, _++_}
-use mathlib.Core.Path.{_≡_, refl, sym, _∙_, ap, ap₂}
+use mathlib.Core.List.{_++_}
+use mathlib.Core.Path.{_≡_, refl, sym, _∙_, ap}
 use Prim.Native.Nat.{ℕ, _-_, _*_, _≤_, zero-le}
 use native.Mathlib.Omega.{arith}
 use denote.Ref.{now}
 use borrow.Author.Needs.{needs}
 use lib.ListN.{length, take, drop, length-set}
-use lib.Seq.{take-length}
 use Rattle.model.specs.File.{lineRecords}
 use Rattle.model.specs.Held.{systemIn}
 use Rattle.model.proofs.Lines.{every-length}
+use Rattle.lists.proofs.Front.{front-all}
 use Rattle.encoder.proofs.LineRecords.{records-stored}
 use Rattle.joined_file.proofs.put_line_records.Statement.{statement}
 use Rattle.joined_file.proofs.put_line_records.Tie as tie
@@ -75,9 +75,7 @@ returns c =
     let start = c .before .before .before .before in
     let system = systemIn (now (start .args .file)) (start .args .m) in
     let all : c .before .loop .i ≡ start .args .m .lines = omega arith in
-    let count : start .args .m .lines ≡ length (system .kinds) = sym (every-length _ _ _) in
-    c .before .loop .inv .1
-    ∙ ap₂ (λ (ks : List ℕ) (n : ℕ). lineRecords ks (system .thresholds) ++ drop (2 * n) (now (start .args .s))) (ap (λ (n : ℕ). take n (system .kinds)) (all ∙ count) ∙ take-length (system .kinds)) all
+    front-all (λ ks. lineRecords ks (system .thresholds)) (system .kinds) (now (start .args .s)) (all ∙ sym (every-length _ _ _)) (ap (λ (n : ℕ). 2 * n) all) (c .before .loop .inv .1)
 
 pub put-line-records-spec : {M : Type 1} → statement M
 put-line-records-spec =

@@ -1,7 +1,7 @@
 -- `joined_file::put_moved_words` meets its contract: after j words the slice begins with their bytes, moved up, and the rest is as it was.
 -- Assumes nothing.
 use mathlib.Core.List.{List, _++_, map}
-use mathlib.Core.Path.{_≡_, refl, sym, _∙_, ap, ap₂, subst}
+use mathlib.Core.Path.{_≡_, refl, sym, _∙_, ap, subst}
 use Prim.Native.Nat.{ℕ, _+_, _-_, _*_, _%_, _^_, _≤_, _<_, zero-le}
 use native.Mathlib.Nat.{mul-zero, mul-comm, mul-le-mul-right, mod-eq-of-lt, lt-of-lt-of-le}
 use native.Mathlib.Omega.{arith}
@@ -9,11 +9,11 @@ use denote.Ref.{now}
 use borrow.Author.Needs.{needs}
 use lib.ListN.{length, getD, take, drop, length-map, List·getD-map}
 use lib.Pow.{pow-pos, pow-add, pow-mono}
-use lib.Seq.{take-length, length-take-le, drop-drop}
+use lib.Seq.{drop-drop}
 use Rattle.sets.specs.SideBySide.{movedUp}
-use Rattle.numbers.specs.Numbers.{numberAt, bytesOf, wordsFrom, wordBytes}
-use Rattle.numbers.proofs.Codec.{words-length, word-at, word-bytes-length, word-bytes-more}
-use Rattle.lists.proofs.Front.{front-part}
+use Rattle.numbers.specs.Numbers.{numberAt, wordsFrom, wordBytes}
+use Rattle.numbers.proofs.Codec.{words-length, word-at, word-stored}
+use Rattle.lists.proofs.Front.{front-all}
 use Rattle.lists.proofs.Below.{below-at}
 use Rattle.model.proofs.Places.{header-whole}
 use Rattle.model.proofs.Sizes.{few-words}
@@ -111,7 +111,6 @@ loop-again c =
     let inside : j < count = at-loop-test .loop-test .taken in
     let words = moved file up first count in
     let many : length words ≡ count = length-map (wordsFrom count (drop first file)) (movedUp up) ∙ words-length count (drop first file) in
-    let written : length (wordBytes (take j words)) ≡ at-loop .loop .at = omega (arith, word-bytes-length (take j words), length-take-le j words (omega arith)) in
     let read = c .before .before .before .u64-at in
     let low : read .result < 2 ^ n =
     subst (λ (w : ℕ). w < 2 ^ n)
@@ -121,9 +120,7 @@ loop-again c =
     shifted n up (read .result) low (start .pre .1 .1 .0 .1) ∙ ap (movedUp up) (read .ensures) ∙ sym (moved-here file up first count j inside) in (
       omega arith,
       omega arith,
-      front-part (wordBytes (take j words)) (bytesOf 8 (read .result * 2 ^ up % 2 ^ 64)) (now (start .args .s)) (at-loop .loop .s) (c .before .before .put-number .last .0) (at-loop .loop .at) 8 (at-loop .loop .at + 8) written refl (inv .2) (c .before .before .put-number .ensures)
-          ∙ ap (λ (bs : List ℕ). bs ++ drop (at-loop .loop .at + 8) (now (start .args .s)))
-          (ap (λ (x : ℕ). wordBytes (take j words) ++ bytesOf 8 x) value ∙ sym (word-bytes-more j words (omega arith))),
+      word-stored words (now (start .args .s)) (at-loop .loop .s) _ j (at-loop .loop .at) _ (omega arith) (inv .1) value (inv .2) (c .before .before .put-number .ensures),
       omega arith,
     )
 
@@ -142,8 +139,8 @@ returns c =
     let many : length words ≡ count = length-map (wordsFrom count (drop first file)) (movedUp up) ∙ words-length count (drop first file) in
     let all : c .before .loop .j ≡ length words = omega arith in
     let end : c .before .loop .at ≡ 8 * count = omega arith in
-    c .before .loop .inv .2
-    ∙ ap₂ (λ (ws : List ℕ) (n : ℕ). wordBytes ws ++ drop n (now (start .args .s))) (ap (λ (n : ℕ). take n words) all ∙ take-length words ∙ ap (λ (at : ℕ). moved file up at count) (counted .words-in .ensures)) end
+    front-all wordBytes words (now (start .args .s)) all end (c .before .loop .inv .2)
+    ∙ ap (λ (at : ℕ). wordBytes (moved file up at count) ++ drop (8 * count) (now (start .args .s))) (counted .words-in .ensures)
 
 pub put-moved-words-spec : {M : Type 1} → statement M
 put-moved-words-spec =

@@ -1,16 +1,15 @@
 -- `numbers::put_words` meets its contract: after i words the slice begins with their bytes, and the rest is as it was.
 -- Assumes nothing.
-use mathlib.Core.List.{List, _++_}
-use mathlib.Core.Path.{_≡_, refl, sym, _∙_, ap, ap₂}
-use Prim.Native.Nat.{ℕ, _+_, _-_, _*_, _≤_, _<_, zero-le}
+use mathlib.Core.List.{_++_}
+use mathlib.Core.Path.{_≡_, refl}
+use Prim.Native.Nat.{_+_, _-_, _*_, _≤_, zero-le}
 use native.Mathlib.Omega.{arith}
 use denote.Ref.{now}
 use borrow.Author.Needs.{needs}
-use lib.ListN.{length, getD, take, drop}
-use lib.Seq.{take-length, length-take-le}
-use Rattle.numbers.specs.Numbers.{bytesOf, wordBytes}
-use Rattle.numbers.proofs.Codec.{word-bytes-length, word-bytes-more}
-use Rattle.lists.proofs.Front.{front-part}
+use lib.ListN.{length, take, drop}
+use Rattle.numbers.specs.Numbers.{wordBytes}
+use Rattle.numbers.proofs.Codec.{word-stored}
+use Rattle.lists.proofs.Front.{front-all}
 use Rattle.numbers.proofs.put_words.Statement.{statement}
 use Rattle.numbers.proofs.put_words.Tie as tie
 
@@ -56,15 +55,10 @@ loop-again c =
     let at-loop-test = c .before .before .before .before .before in
     let at-loop = at-loop-test .before in
     let start = at-loop .before .before .before in
-    let words = now (start .args .words) in
-    let i = at-loop .loop .i in
-    let inv = at-loop .loop .inv in
-    let inside : i < length words = at-loop-test .loop-test .taken in
-    let written : length (wordBytes (take i words)) ≡ at-loop .loop .at = omega (arith, word-bytes-length (take i words), length-take-le i words (inv .0)) in (
+    let inv = at-loop .loop .inv in (
       omega arith,
       omega arith,
-      front-part (wordBytes (take i words)) (bytesOf 8 (getD words i 0)) (now (start .args .s)) (at-loop .loop .s) (c .before .before .put-number .last .0) (at-loop .loop .at) 8 (at-loop .loop .at + 8) written refl (inv .2) (c .before .before .put-number .ensures)
-          ∙ ap (λ (bs : List ℕ). bs ++ drop (at-loop .loop .at + 8) (now (start .args .s))) (sym (word-bytes-more i words inside)),
+      word-stored (now (start .args .words)) (now (start .args .s)) (at-loop .loop .s) _ (at-loop .loop .i) (at-loop .loop .at) _ (at-loop-test .loop-test .taken) (inv .1) refl (inv .2) (c .before .before .put-number .ensures),
       omega arith,
     )
 
@@ -77,8 +71,7 @@ returns c =
     let words = now (start .args .words) in
     let all : c .before .loop .i ≡ length words = omega arith in
     let end : c .before .loop .at ≡ 8 * length words = omega arith in
-    c .before .loop .inv .2
-    ∙ ap₂ (λ (ws : List ℕ) (n : ℕ). wordBytes ws ++ drop n (now (start .args .s))) (ap (λ (n : ℕ). take n words) all ∙ take-length words) end
+    front-all wordBytes words (now (start .args .s)) all end (c .before .loop .inv .2)
 
 pub put-words-spec : {M : Type 1} → statement M
 put-words-spec =

@@ -8,12 +8,12 @@ use native.Mathlib.Omega.{arith}
 use denote.Ref.{now}
 use borrow.Author.Needs.{needs}
 use lib.ListN.{length, getD, set, take, drop, length-set}
-use lib.Seq.{take-suc, take-length, length-take-le}
+use lib.Seq.{take-suc, length-take-le}
 use Rattle.model.specs.File.{isOld}
 use Rattle.model.specs.Held.{systemIn}
 use Rattle.model.specs.Says.{filled}
 use Rattle.model.proofs.Lines.{every-length, thresholds-length}
-use Rattle.lists.proofs.Front.{front-store}
+use Rattle.lists.proofs.Front.{front-store, front-all}
 use Rattle.reader.proofs.read_lines.Statement.{statement}
 use Rattle.reader.proofs.read_lines.Tie as tie
 
@@ -36,8 +36,7 @@ module _ {new old : List ℕ} {n : ℕ} (count : length new ≡ n) where
 
   -- all are stored
   begun-all : {l : List ℕ} {i : ℕ} → i ≡ n → Begun new old i l → l ≡ filled 0 new old
-  begun-all last begun =
-      begun .entries ∙ ap (λ (j : ℕ). take j new ++ drop j old) (last ∙ sym count) ∙ ap (λ (r : List ℕ). r ++ drop (length new) old) (take-length new)
+  begun-all last begun = let all = last ∙ sym count in front-all (λ r. r) new old all all (begun .entries)
 
 abbrev Inv-loop : tie.InvT-loop
 Inv-loop file m kinds₀ thresholds₀ n i₀ kinds thresholds i =
