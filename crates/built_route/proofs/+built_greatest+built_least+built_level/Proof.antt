@@ -20,10 +20,9 @@ use Rattle.model.specs.Held.{systemIn}
 use Rattle.evaluator.specs.declared.Pending.{Pending}
 use Rattle.routes.specs.Parts.{leastOf, greatestOf, queriesFrom}
 use Rattle.evaluator.proofs.DecidedLines.{lowered-none}
-use Rattle.routes.proofs.Inside.{carried-low, carried-high}
 use Rattle.routes.proofs.OverChildren.{then}
-use Rattle.routes.proofs.Levels.{LeastGives, GreatestGives, least-inside, greatest-inside, one-less}
-use Rattle.routes.proofs.ChildrenPassed.{least-begin, greatest-begin, least-child, greatest-child}
+use Rattle.routes.proofs.Levels.{LeastGives, GreatestGives, one-less}
+use Rattle.routes.proofs.ChildrenPassed.{least-begin, greatest-begin, least-child, greatest-child, least-next, greatest-next}
 use Rattle.built_route.proofs.BuiltLevels.{children-passed, all-passed, first-few, levelNumber, leastNumber, greatestNumber, least-called, greatest-called, least-number, greatest-number, least-leaves, greatest-leaves, least-built, greatest-built, least-few, greatest-few}
 use Rattle.evaluator.proofs.decide.Reads as decide
 use Rattle.evaluator.proofs.lower_needs.Reads as lower-needs
@@ -111,22 +110,7 @@ module _ (t : ℕ) where
       let pre = c .before .before .before .before .pre .1 in
       (pre .0 .0, (pre .1 .0 .1, pre .0 .1 .1 .0 .lines))
 
-  -- what the arguments above and the value so far carry, with a row that this value lowers
-  least-next : (c : least-lts.After-decide (least-calls t) (least-at t) least.Post least-inv least-μ)
-      → let z = c .before .before .before .before .before .args in
-      let loop = c .before .before .before .loop in
-      let s = systemIn (now (z .file)) (z .m) in
-      (row : List ℕ) → Lowered s (z .below) (loop .low) (c .decide .result .lowered) (now (z .needs)) row
-      → (ys : List ℕ) → Carried s (suc (z .below)) ys (z .a) (z .b) (z .w) (now (z .needs))
-      → Carried s (z .below) (loop .low ∷ ys) (loop .low) (z .b) (c .decide .result .pending) row
-  least-next c row l ys d =
-      let z = c .before .before .before .before .before .args in
-      let loop = c .before .before .before .loop in
-      let inside = least-inside (systemIn (now (z .file)) (z .m)) (z .below) ys (z .a) (z .b) _ _ _ (loop .inv .gives ys d) in
-      let next = c .decide .ensures .1 ys (carried-low (now (z .needs)) inside d) in
-      (next .decided, next .still-needs row l)
-
-  -- what the call for a child asks, with such a row
+  -- what the call for a child asks, with a row that the value so far lowers
   least-asked : (c : least-lts.After-decide (least-calls t) (least-at t) least.Post least-inv least-μ)
       → let z = c .before .before .before .before .before .args in
       let loop = c .before .before .before .loop in
@@ -137,12 +121,13 @@ module _ (t : ℕ) where
       let z = start .args in
       let pre = start .pre .1 in
       let some = pre .0 .1 in
+      let loop = c .before .before .before .loop in
       let s = systemIn (now (z .file)) (z .m) in
       let child = c .before .child-lines .ensures in
       let n = child .0 in (
         omega (arith, start .pre .0, least-number s (z .below) (z .p) (z .q) _ _ (c .before .before .loop-test .taken) (child .1 (leastOf s (z .below)))),
         (
-          (pre .0 .0, (c .before .before .before .loop .low ∷ some .0, least-next c row l (some .0) (some .1))),
+          (pre .0 .0, (loop .low ∷ some .0, least-next row _ _ (loop .inv .gives) (c .decide .ensures .1) l (some .0) (some .1))),
           ((pre .1 .0 .0, omega (arith, pre .1 .0 .1)), ((n .0, omega (arith, n .1, pre .1 .1 .0 .1)), pre .1 .1 .1)),
         ),
       )
@@ -173,11 +158,12 @@ module _ (t : ℕ) where
       let z = c .before .before .before .before .before .before .before .args in
       let loop = c .before .before .before .before .before .loop in
       let s = systemIn (now (z .file)) (z .m) in
+      let decided = c .before .before .decide .ensures .1 in
       rw (children-passed (z .p) (leastOf s (z .below)) (loop .i) _ (c .before .before .before .before .loop-test .taken) (c .before .before .before .child-lines .ensures .1 _))
       (least-child s (z .below) ys (z .a) (z .b) _ (c .if1 .child) _ _ _ (loop .inv .gives ys d)
       (⊎-elim
-      (λ w. rw (w .2) (w .1 .ensures (loop .low ∷ ys) (least-next (c .before .before) (now (z .needs)) (lowered-none s (z .below) (loop .low) (now (z .needs)) (w .0 .taken)) ys d)))
-      (λ w. rw (w .4) (w .3 .ensures (loop .low ∷ ys) (least-next (c .before .before) (w .1 .result) (w .1 .ensures) ys d)))
+      (λ w. rw (w .2) (w .1 .ensures (loop .low ∷ ys) (least-next (now (z .needs)) _ _ (loop .inv .gives) decided (lowered-none s (z .below) (loop .low) (now (z .needs)) (w .0 .taken)) ys d)))
+      (λ w. rw (w .4) (w .3 .ensures (loop .low ∷ ys) (least-next (w .1 .result) _ _ (loop .inv .gives) decided (w .1 .ensures) ys d)))
       (c .if1 .came)))
 
   least-add-count : least-lts.Need-add-count (least-calls t) (least-at t) least.Post least-inv least-μ
@@ -236,22 +222,7 @@ module _ (t : ℕ) where
       let pre = c .before .before .before .before .pre .1 in
       (pre .0 .0, (pre .1 .0 .1, pre .0 .1 .1 .0 .lines))
 
-  -- what the arguments above and the value so far carry, with a row that this value lowers
-  greatest-next : (c : greatest-lts.After-decide (greatest-calls t) (greatest-at t) greatest.Post greatest-inv greatest-μ)
-      → let z = c .before .before .before .before .before .args in
-      let loop = c .before .before .before .loop in
-      let s = systemIn (now (z .file)) (z .m) in
-      (row : List ℕ) → Lowered s (z .below) (loop .high) (c .decide .result .lowered) (now (z .needs)) row
-      → (ys : List ℕ) → Carried s (suc (z .below)) ys (z .a) (z .b) (z .w) (now (z .needs))
-      → Carried s (z .below) (loop .high ∷ ys) (z .a) (loop .high) (c .decide .result .pending) row
-  greatest-next c row l ys d =
-      let z = c .before .before .before .before .before .args in
-      let loop = c .before .before .before .loop in
-      let inside = greatest-inside (systemIn (now (z .file)) (z .m)) (z .below) ys (z .a) (z .b) _ _ _ (loop .inv .gives ys d) in
-      let next = c .decide .ensures .1 ys (carried-high (now (z .needs)) inside d) in
-      (next .decided, next .still-needs row l)
-
-  -- what the call for a child asks, with such a row
+  -- what the call for a child asks, with a row that the value so far lowers
   greatest-asked : (c : greatest-lts.After-decide (greatest-calls t) (greatest-at t) greatest.Post greatest-inv greatest-μ)
       → let z = c .before .before .before .before .before .args in
       let loop = c .before .before .before .loop in
@@ -262,12 +233,13 @@ module _ (t : ℕ) where
       let z = start .args in
       let pre = start .pre .1 in
       let some = pre .0 .1 in
+      let loop = c .before .before .before .loop in
       let s = systemIn (now (z .file)) (z .m) in
       let child = c .before .child-lines .ensures in
       let n = child .0 in (
         omega (arith, start .pre .0, greatest-number s (z .below) (z .p) (z .q) _ _ (c .before .before .loop-test .taken) (child .1 (greatestOf s (z .below)))),
         (
-          (pre .0 .0, (c .before .before .before .loop .high ∷ some .0, greatest-next c row l (some .0) (some .1))),
+          (pre .0 .0, (loop .high ∷ some .0, greatest-next row _ _ (loop .inv .gives) (c .decide .ensures .1) l (some .0) (some .1))),
           ((pre .1 .0 .0, omega (arith, pre .1 .0 .1)), (pre .1 .1 .0, (n .0, omega (arith, n .1, pre .1 .1 .1 .1)))),
         ),
       )
@@ -298,11 +270,12 @@ module _ (t : ℕ) where
       let z = c .before .before .before .before .before .before .before .args in
       let loop = c .before .before .before .before .before .loop in
       let s = systemIn (now (z .file)) (z .m) in
+      let decided = c .before .before .decide .ensures .1 in
       rw (children-passed (z .q) (greatestOf s (z .below)) (loop .i) _ (c .before .before .before .before .loop-test .taken) (c .before .before .before .child-lines .ensures .1 _))
       (greatest-child s (z .below) ys (z .a) (z .b) _ (c .if1 .child) _ _ _ (loop .inv .gives ys d)
       (⊎-elim
-      (λ w. rw (w .2) (w .1 .ensures (loop .high ∷ ys) (greatest-next (c .before .before) (now (z .needs)) (lowered-none s (z .below) (loop .high) (now (z .needs)) (w .0 .taken)) ys d)))
-      (λ w. rw (w .4) (w .3 .ensures (loop .high ∷ ys) (greatest-next (c .before .before) (w .1 .result) (w .1 .ensures) ys d)))
+      (λ w. rw (w .2) (w .1 .ensures (loop .high ∷ ys) (greatest-next (now (z .needs)) _ _ (loop .inv .gives) decided (lowered-none s (z .below) (loop .high) (now (z .needs)) (w .0 .taken)) ys d)))
+      (λ w. rw (w .4) (w .3 .ensures (loop .high ∷ ys) (greatest-next (w .1 .result) _ _ (loop .inv .gives) decided (w .1 .ensures) ys d)))
       (c .if1 .came)))
 
   greatest-add-count : greatest-lts.Need-add-count (greatest-calls t) (greatest-at t) greatest.Post greatest-inv greatest-μ

@@ -20,11 +20,10 @@ use Rattle.model.specs.Held.{systemIn}
 use Rattle.evaluator.specs.declared.Pending.{Pending}
 use Rattle.evaluator.proofs.DecidedLines.{lowered-none}
 use Rattle.routes.specs.Parts.{queriesFrom}
-use Rattle.routes.proofs.Inside.{carried-low, carried-high}
 use Rattle.routes.proofs.OverChildren.{then}
-use Rattle.routes.proofs.Levels.{LeastGives, GreatestGives, fallingNumber, least-inside, greatest-inside, one-less, least-heights, greatest-heights, least-level, greatest-level}
+use Rattle.routes.proofs.Levels.{LeastGives, GreatestGives, fallingNumber, one-less, least-heights, greatest-heights, least-level, greatest-level}
 use Rattle.lent_route.proofs.FirstChild.{restOf, rest-length}
-use Rattle.routes.proofs.ChildrenPassed.{least-begin, greatest-begin, least-child, greatest-child}
+use Rattle.routes.proofs.ChildrenPassed.{least-begin, greatest-begin, least-child, greatest-child, least-next, greatest-next}
 use Rattle.lent_route.proofs.LentLevels.{Split, split-begin, childAt, NextChild, next-child, least-few, greatest-few, least-leaves, greatest-leaves}
 use Rattle.evaluator.proofs.decide.Reads as decide
 use Rattle.evaluator.proofs.lower_needs.Reads as lower-needs
@@ -155,21 +154,6 @@ module _ (t : ℕ) where
       let z = gap .before .before .before .before .before .before .args in
       (now (z .needs), lowered-none (systemIn (now (z .file)) (z .m)) (z .below) (gap .before .before .loop .low) (now (z .needs)) e)
 
-  -- what the arguments above decide together with the value so far, with such a row
-  least-next : (c : least-lts.After-decide (least-calls t) (least-at t) least.Post least-inv least-μ) (row : LeastRow c)
-      → let gap = c .before .before in
-      let z = gap .before .before .before .before .before .before .args in
-      let low = gap .before .before .loop .low in
-      let s = systemIn (now (z .file)) (z .m) in
-      (ys : List ℕ) → Carried s (suc (z .below)) ys (z .a) (z .b) (z .w) (now (z .needs))
-      → Carried s (z .below) (low ∷ ys) low (z .b) (c .decide .result .pending) (row .0)
-  least-next c row ys d =
-      let gap = c .before .before in
-      let z = gap .before .before .before .before .before .before .args in
-      let inside = least-inside (systemIn (now (z .file)) (z .m)) (z .below) ys (z .a) (z .b) _ _ _ (gap .before .before .loop .inv .gives ys d) in
-      let next = c .decide .ensures .1 ys (carried-low (now (z .needs)) inside d) in
-      (next .decided, next .still-needs (row .0) (row .1))
-
   -- what the call for the next child asks
   least-asked : (c : least-lts.After-decide (least-calls t) (least-at t) least.Post least-inv least-μ) (row : LeastRow c)
       → let gap = c .before .before in
@@ -182,10 +166,11 @@ module _ (t : ℕ) where
       let start = gap .before .before .before .before .before .before in
       let pre = start .pre .1 in
       let some = pre .0 .1 in
+      let loop = gap .before .before .loop in
       let child = least-cut gap in (
         omega (arith, start .pre .0, child .leaves-few),
         (
-          (pre .0 .0, (gap .before .before .loop .low ∷ some .0, least-next c row (some .0) (some .1))),
+          (pre .0 .0, (loop .low ∷ some .0, least-next (row .0) _ _ (loop .inv .gives) (c .decide .ensures .1) (row .1) (some .0) (some .1))),
           ((pre .1 .0 .0, omega (arith, pre .1 .0 .1)), ((search needs, child .lent), pre .1 .1 .1)),
         ),
       )
@@ -226,8 +211,8 @@ module _ (t : ℕ) where
       let loop = gap .before .before .loop in
       least-child (systemIn (now (z .file)) (z .m)) (z .below) ys (z .a) (z .b) _ (c .if1 .child) _ _ (now (z .v)) (loop .inv .gives ys d)
       (⊎-elim
-      (λ w. rw (w .2) (w .1 .ensures (loop .low ∷ ys) (least-next decided (least-own decided (w .0 .taken)) ys d)))
-      (λ w. rw (w .4) (w .3 .ensures (loop .low ∷ ys) (least-next decided (w .1 .result, w .1 .ensures) ys d)))
+      (λ w. rw (w .2) (w .1 .ensures (loop .low ∷ ys) (least-next (now (z .needs)) _ _ (loop .inv .gives) (decided .decide .ensures .1) (least-own decided (w .0 .taken) .1) ys d)))
+      (λ w. rw (w .4) (w .3 .ensures (loop .low ∷ ys) (least-next (w .1 .result) _ _ (loop .inv .gives) (decided .decide .ensures .1) (w .1 .ensures) ys d)))
       (c .if1 .came))
 
   least-add-count : least-lts.Need-add-count (least-calls t) (least-at t) least.Post least-inv least-μ
@@ -355,21 +340,6 @@ module _ (t : ℕ) where
       let z = gap .before .before .before .before .before .before .args in
       (now (z .needs), lowered-none (systemIn (now (z .file)) (z .m)) (z .below) (gap .before .before .loop .high) (now (z .needs)) e)
 
-  -- what the arguments above decide together with the value so far, with such a row
-  greatest-next : (c : greatest-lts.After-decide (greatest-calls t) (greatest-at t) greatest.Post greatest-inv greatest-μ) (row : GreatestRow c)
-      → let gap = c .before .before in
-      let z = gap .before .before .before .before .before .before .args in
-      let high = gap .before .before .loop .high in
-      let s = systemIn (now (z .file)) (z .m) in
-      (ys : List ℕ) → Carried s (suc (z .below)) ys (z .a) (z .b) (z .w) (now (z .needs))
-      → Carried s (z .below) (high ∷ ys) (z .a) high (c .decide .result .pending) (row .0)
-  greatest-next c row ys d =
-      let gap = c .before .before in
-      let z = gap .before .before .before .before .before .before .args in
-      let inside = greatest-inside (systemIn (now (z .file)) (z .m)) (z .below) ys (z .a) (z .b) _ _ _ (gap .before .before .loop .inv .gives ys d) in
-      let next = c .decide .ensures .1 ys (carried-high (now (z .needs)) inside d) in
-      (next .decided, next .still-needs (row .0) (row .1))
-
   -- what the call for the next child asks
   greatest-asked : (c : greatest-lts.After-decide (greatest-calls t) (greatest-at t) greatest.Post greatest-inv greatest-μ) (row : GreatestRow c)
       → let gap = c .before .before in
@@ -382,10 +352,11 @@ module _ (t : ℕ) where
       let start = gap .before .before .before .before .before .before in
       let pre = start .pre .1 in
       let some = pre .0 .1 in
+      let loop = gap .before .before .loop in
       let child = greatest-cut gap in (
         omega (arith, start .pre .0, child .leaves-few),
         (
-          (pre .0 .0, (gap .before .before .loop .high ∷ some .0, greatest-next c row (some .0) (some .1))),
+          (pre .0 .0, (loop .high ∷ some .0, greatest-next (row .0) _ _ (loop .inv .gives) (c .decide .ensures .1) (row .1) (some .0) (some .1))),
           ((pre .1 .0 .0, omega (arith, pre .1 .0 .1)), (pre .1 .1 .0, (search needs, child .lent))),
         ),
       )
@@ -426,8 +397,8 @@ module _ (t : ℕ) where
       let loop = gap .before .before .loop in
       greatest-child (systemIn (now (z .file)) (z .m)) (z .below) ys (z .a) (z .b) _ (c .if1 .child) _ _ (now (z .u)) (loop .inv .gives ys d)
       (⊎-elim
-      (λ w. rw (w .2) (w .1 .ensures (loop .high ∷ ys) (greatest-next decided (greatest-own decided (w .0 .taken)) ys d)))
-      (λ w. rw (w .4) (w .3 .ensures (loop .high ∷ ys) (greatest-next decided (w .1 .result, w .1 .ensures) ys d)))
+      (λ w. rw (w .2) (w .1 .ensures (loop .high ∷ ys) (greatest-next (now (z .needs)) _ _ (loop .inv .gives) (decided .decide .ensures .1) (greatest-own decided (w .0 .taken) .1) ys d)))
+      (λ w. rw (w .4) (w .3 .ensures (loop .high ∷ ys) (greatest-next (w .1 .result) _ _ (loop .inv .gives) (decided .decide .ensures .1) (w .1 .ensures) ys d)))
       (c .if1 .came))
 
   greatest-add-count : greatest-lts.Need-add-count (greatest-calls t) (greatest-at t) greatest.Post greatest-inv greatest-μ
