@@ -1,12 +1,10 @@
 -- `solver::solve_built` meets its contract: what `admit` refuses is handed on, the ceiling is held against the forecast for the file's own system, and the
 -- evaluator's set and count are those of that system.
 -- Assumes nothing.
-use mathlib.Core.Path.{_≡_, sym, _∙_, ap, subst}
+use mathlib.Core.Path.{_≡_, _∙_, ap}
 use denote.Ref.{now}
 use Rattle.model.specs.File.{decode}
 use Rattle.admission.specs.Checks.{forecast}
-use Rattle.solver.specs.Says.{handedOn, BuiltSays}
-use Rattle.solver.specs.declared.Judged.{Judged}
 use Rattle.admission.proofs.Admitted.{Admitted, admitted, turned-down}
 use Rattle.solver.proofs.Answers.{built-refused, built-over, built-found}
 use borrow.Author.Needs.{needs}
@@ -33,10 +31,8 @@ hand-on-requires c κs = search needs
 
 returns : tie.Need-returns
 returns c =
-    let start = c .before .before .before .before .before in
     let told = c .before .enum-told .given .1 in
-    subst (λ (r : Judged). BuiltSays (now (start .args .file)) (start .args .a) (start .args .b) (start .args .ceiling) r) (sym (c .hand-on .ensures ∙ ap handedOn told))
-    (built-refused _ _ _ _ (turned-down _ _ _ (c .before .before .before .admit .ensures) told))
+    rw (c .hand-on .ensures, told) (built-refused _ _ _ _ (turned-down _ _ _ (c .before .before .before .admit .ensures) told))
 
 forecast-requires : tie.Need-forecast-requires
 forecast-requires c κs = known c .held

@@ -2,7 +2,7 @@
 -- and the evaluator's set and count are those of that system.
 -- Assumes nothing.
 use mathlib.Core.Bool.{Bool}
-use mathlib.Core.Path.{_≡_, refl, sym, _∙_, ap, subst}
+use mathlib.Core.Path.{_≡_, refl, sym, _∙_, ap}
 use Prim.Native.Nat.{ℕ, _-_}
 use native.Mathlib.Omega.{arith}
 use denote.Ref.{now}
@@ -12,8 +12,6 @@ use Rattle.model.specs.File.{decode}
 use Rattle.model.specs.Held.{systemIn}
 use Rattle.routes.specs.Routes.{leastLevels, greatestLevels}
 use Rattle.admission.specs.Checks.{badTree}
-use Rattle.solver.specs.Says.{handedOn, LentSays}
-use Rattle.solver.specs.declared.Judged.{Judged}
 use Rattle.admission.proofs.Admitted.{Admitted, admitted, turned-down}
 use Rattle.solver.proofs.Answers.{lent-refused, lent-bad, lent-found}
 use Rattle.admission.proofs.LentTrees.{good-tree}
@@ -70,10 +68,8 @@ hand-on-requires c κs = search needs
 
 returns : tie.Need-returns
 returns c =
-    let start = c .before .before .before .before .before .before .before in
     let told = c .before .enum-told .given .1 in
-    subst (λ (r : Judged). LentSays (now (start .args .file)) (start .args .a) (start .args .b) (now (start .args .u)) (now (start .args .v)) r) (sym (c .hand-on .ensures ∙ ap handedOn told))
-    (lent-refused _ _ _ _ _ (turned-down _ _ _ (c .before .before .before .admit .ensures) told))
+    rw (c .hand-on .ensures, told) (lent-refused _ _ _ _ _ (turned-down _ _ _ (c .before .before .before .admit .ensures) told))
 
 count-least-requires : tie.Need-count-least-requires
 count-least-requires c κs = known c .held

@@ -1,6 +1,6 @@
 -- `solver::solve_plain` meets its contract: what `admit` refuses is handed on, and the evaluator's outcome is that of the file's own system.
 -- Assumes nothing.
-use mathlib.Core.Path.{_≡_, sym, _∙_, ap, subst}
+use mathlib.Core.Path.{_≡_, sym, _∙_}
 use native.Mathlib.Omega.{arith}
 use denote.Ref.{now}
 use Rattle.model.specs.File.{decode}
@@ -8,8 +8,6 @@ use Rattle.plain_route.specs.Under.{under}
 use Rattle.routes.specs.Routes.{plainRun}
 use Rattle.plain_route.specs.declared.Outcome.the-variants.{Settled}
 use Rattle.plain_route.proofs.Rounds.{settled-fits}
-use Rattle.solver.specs.Says.{handedOn, PlainSays}
-use Rattle.solver.specs.declared.Judged.{Judged}
 use Rattle.admission.proofs.Admitted.{Admitted, admitted, counted-range, turned-down}
 use Rattle.solver.proofs.Answers.{plain-refused, plain-spent, plain-found}
 use borrow.Author.Needs.{needs}
@@ -42,11 +40,8 @@ hand-on-requires c κs = search needs
 
 returns : tie.Need-returns
 returns c =
-    let start = c .before .before .before .before .before in
-    let file = now (start .args .file) in
     let told = c .before .enum-told .given .1 in
-    subst (λ (r : Judged). PlainSays file (start .args .a) (start .args .b) (start .args .ceiling) r) (sym (c .hand-on .ensures ∙ ap handedOn told))
-    (plain-refused file (start .args .a) (start .args .b) (start .args .ceiling) (turned-down file (start .args .a) (start .args .b) (c .before .before .before .admit .ensures) told))
+    rw (c .hand-on .ensures, told) (plain-refused _ _ _ _ (turned-down _ _ _ (c .before .before .before .admit .ensures) told))
 
 plain-of-requires : tie.Need-plain-of-requires
 plain-of-requires c κs = (known c .in-use, counted-range (known c))
