@@ -1,9 +1,5 @@
 -- `answer_c::put_paged` meets its contract: the words of each case.
 -- Assumes nothing.
-use mathlib.Core.Path.{sym, ap, _∙_}
-use Rattle.bench_page.specs.declared.Paged.{Paged}
-use Rattle.bench_page.specs.Says.{pagedAnswer}
-use Rattle.answer_c.specs.Words.{sixWords}
 use borrow.Author.Needs.{needs}
 use Rattle.answer_c.proofs.put_paged.Statement.{statement}
 use Rattle.answer_c.proofs.put_paged.Tie as tie
@@ -24,13 +20,13 @@ put-refused-requires : tie.Need-put-refused-requires
 put-refused-requires c κs = search needs
 
 returns : tie.Need-returns
-returns c = sym (ap (λ (r : Paged). sixWords (pagedAnswer r)) (c .before .before .r .given .1))
+returns c = rw (c .before .before .r .given .1)
 
 returns-2 : tie.Need-returns-2
-returns-2 c = c .put-over-ceiling .ensures ∙ sym (ap (λ (r : Paged). sixWords (pagedAnswer r)) (c .before .before .before .r2 .given .1))
+returns-2 c = rw (c .before .before .before .r2 .given .1) (c .put-over-ceiling .ensures)
 
 returns-3 : tie.Need-returns-3
-returns-3 c = c .put-refused .ensures ∙ sym (ap (λ (r : Paged). sixWords (pagedAnswer r)) (c .before .before .before .r3 .given .1))
+returns-3 c = rw (c .before .before .before .r3 .given .1) (c .put-refused .ensures)
 
 pub put-paged-spec : {M : Type 1} → statement M
 put-paged-spec =

@@ -1,9 +1,5 @@
 -- `answer_c::put_queried` meets its contract: the words of each case.
 -- Assumes nothing.
-use mathlib.Core.Path.{sym, ap, _∙_}
-use Rattle.solver.specs.declared.Queried.{Queried}
-use Rattle.solver.specs.Says.{queriedAnswer}
-use Rattle.answer_c.specs.Words.{sixWords}
 use borrow.Author.Needs.{needs}
 use Rattle.answer_c.proofs.put_queried.Statement.{statement}
 use Rattle.answer_c.proofs.put_queried.Tie as tie
@@ -18,10 +14,10 @@ put-refused-requires : tie.Need-put-refused-requires
 put-refused-requires c κs = search needs
 
 returns : tie.Need-returns
-returns c = sym (ap (λ (r : Queried). sixWords (queriedAnswer r)) (c .before .before .r .given .1))
+returns c = rw (c .before .before .r .given .1)
 
 returns-2 : tie.Need-returns-2
-returns-2 c = c .put-refused .ensures ∙ sym (ap (λ (r : Queried). sixWords (queriedAnswer r)) (c .before .before .before .r2 .given .1))
+returns-2 c = rw (c .before .before .before .r2 .given .1) (c .put-refused .ensures)
 
 pub put-queried-spec : {M : Type 1} → statement M
 put-queried-spec =
