@@ -19,7 +19,7 @@ use Rattle.answers.proofs.Checks.{Passes, passes-both, none-first, after-none, 
 use Rattle.lists.proofs.Below.{below-entries}
 use Rattle.system.specs.Query.{VotesNeed}
 use Rattle.system.specs.System.{WellFormed}
-use Rattle.model.specs.File.{kindsAt, linesIn, levelsIn, wordsIn, lineBytes, highestKind, sections, decode}
+use Rattle.model.specs.File.{linesIn, levelsIn, highestKind, sections, decode}
 use Rattle.model.specs.Checks.{some, strays, misfits, thresholdMisfits}
 use Rattle.model.specs.Held.{LaidOut, Held}
 use Rattle.checker.specs.Checks.{headerChecks, sectionChecks, fileChecks, fileNumber, checkAnswer}
@@ -36,30 +36,27 @@ use Rattle.model.proofs.Searches.{false-some, false-below}
 use Rattle.model.proofs.Lines.{every-length, thresholds-length}
 use Rattle.numbers.proofs.Codec.{words-length}
 use Rattle.model.proofs.Refusals.{AcceptedAs, RefusedAs, accepted-as, refused-as}
-use Rattle.model.proofs.RoundTrip.{oldIn}
+use Rattle.model.proofs.RoundTrip.{oldIn, Laid}
 use Rattle.checker.proofs.Passed.{passes-laid}
 
--- the counts, where the words begin (behind the bytes of the lines), and the length
+-- the counts, and where the sections begin and end
 pub record Headed (file : List ℕ) : Type 0 where
   pub lines-least : 1 ≤ linesIn file
   pub lines-most : linesIn file ≤ 64
   pub levels-least : 1 ≤ levelsIn file
   pub levels-most : levelsIn file ≤ 8
-  pub laid : wordsIn file ≡ kindsAt (levelsIn file) + lineBytes (oldIn file) * linesIn file
-  pub size : length file ≡ wordsIn file + 8 * (linesIn file * levelsIn file)
+  pub laid : Laid file
 
 pub headed : (file : List ℕ) → Passes (headerChecks file) → Headed file
 headed file passed =
     let lines = inside 64 (linesIn file) (passed .1 .0) in
     let levels = inside 8 (levelsIn file) (passed .1 .1 .0) in
-    let laid = passes-laid file (passed .1 .1 .1) in
     record {
       lines-least = lines .0;
       lines-most = lines .1;
       levels-least = levels .0;
       levels-most = levels .1;
-      laid = laid .words-right;
-      size = laid .length-right;
+      laid = passes-laid file (passed .1 .1 .1);
     }
 
 -- how many signs, kinds, thresholds and words there are
@@ -143,8 +140,8 @@ module _ {file : List ℕ} {e : ℕ} {m : Model} where
       record {
         few-lines = omega arith;
         few-levels = omega arith;
-        laid = rw (a .lines, a .levels) (h .laid);
-        whole = rw (a .lines, a .levels) (omega (arith, h .size));
+        laid = rw (a .lines, a .levels) (h .laid .words-right);
+        whole = rw (a .lines, a .levels) (omega (arith, h .laid .length-right));
       }
 
   pub held : Accepted file → AcceptedAs e (linesIn file) (levelsIn file) m → Held file m
