@@ -3,7 +3,7 @@
 -- level, and the line is decided once it needs nothing more.
 -- Assumes nothing.
 use mathlib.Core.Bool.{Bool, true, false, cond, not, true≢false, _&&_, _||_, Bool·beq, and-false}
-use mathlib.Core.List.{List, [], _∷_, _++_}
+use mathlib.Core.List.{List, [], _∷_, _++_, map, map-append}
 use mathlib.Core.Path.{_≡_, refl, sym, _∙_, ap, ap₂}
 use Prim.Native.Nat.{ℕ, zero, suc, _+_, _-_, _≤_, _<_}
 use native.Mathlib.Nat.{add-comm}
@@ -14,7 +14,7 @@ use lib.Dec.{eqb, leb}
 use Rattle.sets.specs.Set.{isMember, full}
 use Rattle.sets.proofs.Membership.{member-differ, member-full}
 use Rattle.system.specs.Query.{any, all, countSet, valueOf, selected}
-use Rattle.system.proofs.Masks.{still-needed}
+use Rattle.system.proofs.Masks.{count-append, still-needed}
 use Rattle.evaluator.specs.ByLevels.{needed}
 
 -- two Booleans that differ: a value that changes, or does not
@@ -23,16 +23,10 @@ changed s t = cond s (not t) t
 
 -- how many of some operands are not v
 abbrev against : Bool → List Bool → ℕ
-against v [] = 0
-against v (b ∷ bs) = cond (changed b v) (suc (against v bs)) (against v bs)
+against v bits = countSet (map (λ b. changed b v) bits)
 
 against-append : (v : Bool) (bs cs : List Bool) → against v (bs ++ cs) ≡ against v bs + against v cs
-against-append v [] cs = omega arith
-against-append v (b ∷ bs) cs = go (changed b v) (against v bs) (against-append v bs cs)
-  where
-    go : (t : Bool) {n : ℕ} (m : ℕ) → n ≡ m + against v cs → cond t (suc n) n ≡ cond t (suc m) m + against v cs
-    go true m e = omega arith
-    go false m e = e
+against-append v bs cs = rw map-append (count-append (map (λ b. changed b v) bs) (map (λ b. changed b v) cs))
 
 -- of those that are not set, as many as are set
 against-false : (bits : List Bool) → against false bits ≡ countSet bits

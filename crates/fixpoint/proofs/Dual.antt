@@ -83,20 +83,16 @@ module _ (𝓥 : Values) where
 abbrev pub flip : (ℕ → Bool) → ℕ → Bool
 flip sign k = not (sign k)
 
+turned : (s : Bool) (m n : ℕ) → cond (not s) m n ≡ cond s n m
+turned true m n = refl
+turned false m n = refl
+
 pub least-flip : (sign : ℕ → Bool) (k : ℕ) → leastAmong (flip sign) k ≡ greatestAmong sign k
 unfolding leastAmong greatestAmong
 least-flip sign zero = refl
-least-flip sign (suc k) = rw (least-flip sign k) (go (sign k) (greatestAmong sign k))
-  where
-    go : (s : Bool) (m : ℕ) → cond (not s) m (suc m) ≡ cond s (suc m) m
-    go true m = refl
-    go false m = refl
+least-flip sign (suc k) = rw (least-flip sign k) (turned (sign k) _ _)
 
 pub greatest-flip : (sign : ℕ → Bool) (k : ℕ) → greatestAmong (flip sign) k ≡ leastAmong sign k
 unfolding leastAmong greatestAmong
 greatest-flip sign zero = refl
-greatest-flip sign (suc k) = rw (greatest-flip sign k) (go (sign k) (leastAmong sign k))
-  where
-    go : (s : Bool) (m : ℕ) → cond (not s) (suc m) m ≡ cond s m (suc m)
-    go true m = refl
-    go false m = refl
+greatest-flip sign (suc k) = rw (greatest-flip sign k) (turned (sign k) _ _)

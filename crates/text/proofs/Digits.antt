@@ -73,15 +73,16 @@ module _ (out₀ : List ℕ) (at base k x : ℕ) where
       f .held ∙ ap (λ (n : ℕ). take (at + n) out₀ ++ (f .put ++ drop (at + k) out₀)) e ∙ ap (λ (n : ℕ). take n out₀ ++ (f .put ++ drop (at + k) out₀)) (add-zero at)
       ∙ ap₂ (λ (t : List ℕ) (n : ℕ). take at out₀ ++ (t ++ drop (at + n) out₀)) (sym all) (sym (digits-length base k x))
 
+-- one digit, or one more than of a tenth
+one-digit-more : (t : Bool) {m k : ℕ} → m ≤ suc k → cond t 1 (suc m) ≤ suc (suc k)
+one-digit-more true h = omega arith
+one-digit-more false h = omega arith
+
 -- what a text's length is at most, so that it fits
 pub places-few : (k x : ℕ) → places k x ≤ suc k
 unfolding places
 places-few zero x = omega arith
-places-few (suc k) x = go (ltb x 10) (places-few k (x / 10))
-  where
-    go : (t : Bool) → places k (x / 10) ≤ suc k → cond t 1 (suc (places k (x / 10))) ≤ suc (suc k)
-    go true h = omega arith
-    go false h = omega arith
+places-few (suc k) x = one-digit-more (ltb x 10) (places-few k (x / 10))
 
 -- a number below 10 ^ k has at most k digits, one at the least
 pub places-within : (m k x : ℕ) → 1 ≤ k → x < 10 ^ k → places m x ≤ k
@@ -89,11 +90,7 @@ unfolding places
 places-within m zero x some h = absurd (omega arith)
 places-within zero (suc k) x some h = omega arith
 places-within (suc m) (suc zero) x some h = rw (lt-ltb x 10 h) (omega arith)
-places-within (suc m) (suc (suc k)) x some h = go (ltb x 10) (places-within m (suc k) (x / 10) (omega arith) (div-lt-iff-lt-mul (lit< tt) .1 (rw pow-suc at h)))
-  where
-    go : (t : Bool) → places m (x / 10) ≤ suc k → cond t 1 (suc (places m (x / 10))) ≤ suc (suc k)
-    go true l = omega arith
-    go false l = omega arith
+places-within (suc m) (suc (suc k)) x some h = one-digit-more (ltb x 10) (places-within m (suc k) (x / 10) (omega arith) (div-lt-iff-lt-mul (lit< tt) .1 (rw pow-suc at h)))
 
 pub decimal-few : (x : ℕ) → length (decimal x) ≤ 20
 decimal-few x = omega (arith, digits-length 10 (places 19 x) x, places-few 19 x)
