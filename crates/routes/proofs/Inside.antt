@@ -60,22 +60,19 @@ restricted-inside n sign f zero xs a b u v = inside-step a b (f xs)
 restricted-inside n sign f (suc k) xs a b u v =
     level-inside (λ c. restricted (sets n) sign f k (c ∷ xs)) (λ c. restricted-inside n sign f k (c ∷ xs)) (sign k) (leastAmong sign (suc k)) (greatestAmong sign (suc k)) a b u v
 
--- what is carried between two bounds is carried between narrower ones
-module _ {s : System} {k : ℕ} {ys : List ℕ} {a b x : ℕ} {w : Pending} (needs : List ℕ) (f : Inside a b x) (c : Carried s k ys a b w needs) where
-  pub carried-low : Carried s k ys x b w needs
-  carried-low = (
-    record { value = λ i p q. c .0 .value i p (out i p q); still = λ i p q. c .0 .still i p (out i p q); lines = c .0 .lines },
-    (λ i p q. c .1 i p (out i p q)),
+-- what is carried between two bounds is carried between others that leave no more lines open
+module _ {s : System} {k : ℕ} {ys : List ℕ} {a b : ℕ} {w : Pending} (needs : List ℕ) where
+  carried-between : {c e : ℕ} → ((i : ℕ) → isMember e i ≡ true → isMember c i ≡ false → (isMember b i ≡ true) × (isMember a i ≡ false))
+      → Carried s k ys a b w needs → Carried s k ys c e w needs
+  carried-between in-wider (d, n) = (
+    record { value = λ i p q. d .value i (in-wider i p q .0) (in-wider i p q .1); still = λ i p q. d .still i (in-wider i p q .0) (in-wider i p q .1); lines = d .lines },
+    (λ i p q. n i (in-wider i p q .0) (in-wider i p q .1)),
   )
-    where
-      out : (i : ℕ) → isMember b i ≡ true → isMember x i ≡ false → isMember a i ≡ false
-      out i p q = ne-eqb (digit a i) 1 (λ e. omega (arith, f .low i, member-digit b i true p, member-digit x i false q))
 
-  pub carried-high : Carried s k ys a x w needs
-  carried-high = (
-    record { value = λ i p q. c .0 .value i (in-b i p q) q; still = λ i p q. c .0 .still i (in-b i p q) q; lines = c .0 .lines },
-    (λ i p q. c .1 i (in-b i p q) q),
-  )
-    where
-      in-b : (i : ℕ) → isMember x i ≡ true → isMember a i ≡ false → isMember b i ≡ true
-      in-b i p q = eq-eqb (digit b i) 1 (omega (arith, f .high i, member-digit x i true p, member-digit a i false q))
+  -- so between narrower ones, on either side
+  module _ {x : ℕ} (f : Inside a b x) where
+    pub carried-low : Carried s k ys a b w needs → Carried s k ys x b w needs
+    carried-low = carried-between (λ i p q. (p, ne-eqb (digit a i) 1 (λ e. omega (arith, f .low i, member-digit b i true p, member-digit x i false q))))
+
+    pub carried-high : Carried s k ys a b w needs → Carried s k ys a x w needs
+    carried-high = carried-between (λ i p q. (eq-eqb (digit b i) 1 (omega (arith, f .high i, member-digit x i true p, member-digit a i false q)), q))
