@@ -61,61 +61,40 @@ eqb-add c a b = go (eqb a b) refl
     go true e = eq-eqb (c + a) (c + b) (ap (λ (x : ℕ). c + x) (eqb-true a b e)) ∙ sym e
     go false e = ne-eqb (c + a) (c + b) (λ q. eqb-false a b e (omega arith)) ∙ sym e
 
--- the selections below m, one after the other
-any-below : (m w x : ℕ) → any (selected m w x) ≡ not (eqb (intersection w x % 2 ^ m) 0)
-unfolding selected
-any-below zero w x = sym (ap not (eq-eqb (intersection w x % 1) 0 (omega arith)))
-any-below (suc m) w x = go (isMember w m) (isMember x m) refl refl (any-below m w x)
-  where
-    y : ℕ
-    y = intersection w x
-
-    go : (s t : Bool) → isMember w m ≡ s → isMember x m ≡ t → any (selected m w x) ≡ not (eqb (y % 2 ^ m) 0)
-        → any (cond (isMember w m) (isMember x m ∷ selected m w x) (selected m w x)) ≡ not (eqb (y % 2 ^ suc m) 0)
-    go true true e f ih =
-        rw (e, f, digit-one y m (meet-digit w x m true true e f))
-        (sym (ap not (ne-eqb (2 ^ m + y % 2 ^ m) 0 (λ q. let p : 0 < 2 ^ m = pow-pos m in omega arith))))
-    go true false e f ih = rw (e, f, digit-zero y m (meet-digit w x m true false e f)) ih
-    go false t e f ih = rw (e, digit-zero y m (meet-digit w x m false t e f ∙ omega arith)) ih
-
-all-below : (m w x : ℕ) → all (selected m w x) ≡ eqb (intersection w x % 2 ^ m) (w % 2 ^ m)
-unfolding selected
-all-below zero w x = sym (eq-eqb (intersection w x % 1) (w % 1) (omega arith))
-all-below (suc m) w x = go (isMember w m) (isMember x m) refl refl (all-below m w x)
-  where
-    y : ℕ
-    y = intersection w x
-
-    low : (z : ℕ) → z % 2 ^ m < 2 ^ m
-    low z = mod-lt z (pow-pos m)
-
-    go : (s t : Bool) → isMember w m ≡ s → isMember x m ≡ t → all (selected m w x) ≡ eqb (y % 2 ^ m) (w % 2 ^ m)
-        → all (cond (isMember w m) (isMember x m ∷ selected m w x) (selected m w x)) ≡ eqb (y % 2 ^ suc m) (w % 2 ^ suc m)
-    go true true e f ih =
-        rw (e, f, digit-one y m (meet-digit w x m true true e f), digit-one w m (member-digit w m true e), eqb-add) ih
-    go true false e f ih =
-        rw (e, f, digit-zero y m (meet-digit w x m true false e f), digit-one w m (member-digit w m true e))
-        (sym (ne-eqb (y % 2 ^ m) (2 ^ m + w % 2 ^ m) (λ q. omega (arith, low y))))
-    go false t e f ih = rw (e, digit-zero y m (meet-digit w x m false t e f ∙ omega arith), digit-zero w m (member-digit w m false e)) ih
-
 members-more : (m y : ℕ) → members (2 ^ m + y % 2 ^ m) ≡ suc (members (y % 2 ^ m))
 members-more m y = omega (arith, ones-cat m 1 (y % 2 ^ m) (mod-lt y (pow-pos m)), ap (λ (z : ℕ). members (z + y % 2 ^ m)) (one-mul (2 ^ m)), members-full 1)
 
-count-below : (m w x : ℕ) → countSet (selected m w x) ≡ members (intersection w x % 2 ^ m)
-unfolding selected
-count-below zero w x = sym (ap members (mod-one (intersection w x)) ∙ members-empty)
-count-below (suc m) w x = go (isMember w m) (isMember x m) refl refl (count-below m w x)
-  where
-    y : ℕ
-    y = intersection w x
+module _ (w x : ℕ) where
+  -- The selections below m, one after the other: P speaks of them, of the digits below m that the word and the argument both have, and of the word's.
+  module _ (P : List Bool → ℕ → ℕ → Type 0) where
+    abbrev Below : ℕ → Type 0
+    Below m = P (selected m w x) (intersection w x % 2 ^ m) (w % 2 ^ m)
 
-    go : (s t : Bool) → isMember w m ≡ s → isMember x m ≡ t → countSet (selected m w x) ≡ members (y % 2 ^ m)
-        → countSet (cond (isMember w m) (isMember x m ∷ selected m w x) (selected m w x)) ≡ members (y % 2 ^ suc m)
-    go true true e f ih =
-        rw (e, f, digit-one y m (meet-digit w x m true true e f))
-        (ap suc ih ∙ sym (members-more m y))
-    go true false e f ih = rw (e, f, digit-zero y m (meet-digit w x m true false e f)) ih
-    go false t e f ih = rw (e, digit-zero y m (meet-digit w x m false t e f ∙ omega arith)) ih
+    by-selected : P [] 0 0 → ((m : ℕ) → Below m → P (true ∷ selected m w x) (2 ^ m + intersection w x % 2 ^ m) (2 ^ m + w % 2 ^ m))
+        → ((m : ℕ) → Below m → P (false ∷ selected m w x) (intersection w x % 2 ^ m) (2 ^ m + w % 2 ^ m)) → (m : ℕ) → Below m
+    unfolding selected
+    by-selected none set unset zero = rw (mod-one (intersection w x), mod-one w) none
+    by-selected none set unset (suc m) = go (isMember w m) (isMember x m) refl refl (by-selected none set unset m)
+      where
+        go : (s t : Bool) → isMember w m ≡ s → isMember x m ≡ t → Below m → P (cond (isMember w m) (isMember x m ∷ selected m w x) (selected m w x)) (intersection w x % 2 ^ suc m) (w % 2 ^ suc m)
+        go true true e f h = rw (e, f, digit-one (intersection w x) m (meet-digit w x m true true e f), digit-one w m (member-digit w m true e)) (set m h)
+        go true false e f h = rw (e, f, digit-zero (intersection w x) m (meet-digit w x m true false e f), digit-one w m (member-digit w m true e)) (unset m h)
+        go false t e f h = rw (e, digit-zero (intersection w x) m (meet-digit w x m false t e f ∙ omega arith), digit-zero w m (member-digit w m false e)) h
+
+  any-below : (m : ℕ) → any (selected m w x) ≡ not (eqb (intersection w x % 2 ^ m) 0)
+  any-below = by-selected (λ bs y v. any bs ≡ not (eqb y 0)) refl
+      (λ m h. sym (ap not (ne-eqb (2 ^ m + intersection w x % 2 ^ m) 0 (λ q. let p : 0 < 2 ^ m = pow-pos m in omega arith)))) (λ m h. h)
+
+  all-below : (m : ℕ) → all (selected m w x) ≡ eqb (intersection w x % 2 ^ m) (w % 2 ^ m)
+  all-below = by-selected (λ bs y v. all bs ≡ eqb y v) refl (λ m h. h ∙ sym (eqb-add (2 ^ m) _ _))
+      (λ m h. sym (ne-eqb (intersection w x % 2 ^ m) (2 ^ m + w % 2 ^ m) (λ q. omega (arith, mod-lt (intersection w x) (pow-pos m)))))
+
+  count-below : (m : ℕ) → countSet (selected m w x) ≡ members (intersection w x % 2 ^ m)
+  count-below = by-selected (λ bs y v. countSet bs ≡ members y) (sym members-empty) (λ m h. ap suc h ∙ sym (members-more m (intersection w x))) (λ m h. h)
+
+  -- a word selects as many operands as it has members, whatever the argument
+  selected-length : (m : ℕ) → length (selected m w x) ≡ members (w % 2 ^ m)
+  selected-length = by-selected (λ bs y v. length bs ≡ members v) (sym members-empty) (λ m h. ap suc h ∙ sym (members-more m w)) (λ m h. ap suc h ∙ sym (members-more m w))
 
 -- all 64 of them, in words
 module _ (w x : ℕ) (lw : w < 2 ^ 64) (lx : x < 2 ^ 64) where
@@ -123,24 +102,13 @@ module _ (w x : ℕ) (lw : w < 2 ^ 64) (lx : x < 2 ^ 64) where
   whole = mod-eq-of-lt (and-lt 64 w x lw lx)
 
   pub any-selected : any (selected 64 w x) ≡ not (eqb (intersection w x) 0)
-  any-selected = any-below 64 w x ∙ ap (λ (y : ℕ). not (eqb y 0)) whole
+  any-selected = any-below w x 64 ∙ ap (λ (y : ℕ). not (eqb y 0)) whole
 
   pub all-selected : all (selected 64 w x) ≡ isWithin w x
-  all-selected = all-below 64 w x ∙ rw (whole, mod-eq-of-lt lw)
+  all-selected = all-below w x 64 ∙ rw (whole, mod-eq-of-lt lw)
 
   pub count-selected : countSet (selected 64 w x) ≡ members (intersection w x)
-  count-selected = count-below 64 w x ∙ ap members whole
-
--- a word selects as many operands as it has members, whatever the argument
-selected-length : (m w x : ℕ) → length (selected m w x) ≡ members (w % 2 ^ m)
-unfolding selected
-selected-length zero w x = sym (ap members (mod-one w) ∙ members-empty)
-selected-length (suc m) w x = go (isMember w m) refl (selected-length m w x)
-  where
-    go : (s : Bool) → isMember w m ≡ s → length (selected m w x) ≡ members (w % 2 ^ m)
-        → length (cond (isMember w m) (isMember x m ∷ selected m w x) (selected m w x)) ≡ members (w % 2 ^ suc m)
-    go true e ih = rw (e, digit-one w m (member-digit w m true e)) (ap suc ih ∙ sym (members-more m w))
-    go false e ih = rw (e, digit-zero w m (member-digit w m false e)) ih
+  count-selected = count-below w x 64 ∙ ap members whole
 
 -- So a query looks at as many bits of a line as `operandCount` says (request W4).
 pub operands-counted : (ws xs : List ℕ) → length ws ≤ length xs → ((k : ℕ) → getD ws k 0 < 2 ^ 64) → length (operands ws xs) ≡ operandCount ws
@@ -149,7 +117,7 @@ operands-counted [] xs h below = refl
 operands-counted (w ∷ ws) [] h below = absurd (omega arith)
 operands-counted (w ∷ ws) (x ∷ xs) h below =
     length-append (selected 64 w x) (operands ws xs)
-    ∙ ap₂ _+_ (selected-length 64 w x ∙ ap members (mod-eq-of-lt (below 0))) (operands-counted ws xs (omega arith) (λ k. below (suc k)))
+    ∙ ap₂ _+_ (selected-length w x 64 ∙ ap members (mod-eq-of-lt (below 0))) (operands-counted ws xs (omega arith) (λ k. below (suc k)))
 
 -- the operands of one word more
 pub operands-more : (ws : List ℕ) (w : ℕ) → operandCount (ws ++ w ∷ []) ≡ operandCount ws + members w
