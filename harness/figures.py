@@ -192,7 +192,7 @@ def main(run, folder):
             run, "growth with the levels", 2, "levels", list(range(1, 9)), float,
         ),
         "beside-rust.svg": ratios("The engine beside the same algorithm in Rust, each row of the run", run),
-    }  # fmt: skip
+    }
     for name, drawn in figures.items():
         (Path(folder) / name).write_text(drawn)
 

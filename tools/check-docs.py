@@ -7,7 +7,7 @@
   capital inside is declared somewhere; and where the text says "`name`, `name` in `file`", in that file. In README.md,
   docs/PROVED.md and docs/DEMANDS.md any other word stands somewhere in the sources.
 - docs/DEMANDS.md names every public function of the crates, and each must-fail edit that it names is one. The table of files of
-  docs/ARCHITECTURE.md has all of specs/ and proofs/.
+  docs/ARCHITECTURE.md has all of specs/ and proofs/, and nothing else.
 - docs/PROVED.md gives the number of lines of each specs file that it names.
 - The figures of docs/BENCHMARK.md are those that harness/figures.py draws from the stored run, and what it quotes stands there.
 - A link leads to a file, and to a heading where it names one.
@@ -171,22 +171,25 @@ def check_functions(doc):
 
 
 def check_files(doc):
-    """The table of files: for each crate, which its first column names, what stands in specs/ and proofs/."""
-    crates, named = [], {}
-    for number, line in lines_of(doc):
-        cells = [cell.strip() for cell in line.split("|")[1:-1]]
-        if len(cells) == 3 and not set(line) <= set("|-"):
-            crates = WORD.findall(cells[0]) or crates
-            for crate in crates:
-                for folder, cell in zip(("specs", "proofs"), cells[1:]):
-                    for name in WORD.findall(cell):
-                        named[(crate, folder, name)] = number
+    """The table of files: for each crate, which its first column names or the row above does, what stands in specs/ and proofs/."""
     there = {
         (path.parts[1], path.parts[2], path.stem)
         for path in TEXT
         if path.parts[0] == "crates" and len(path.parts) == 4 and path.suffix == ".antt" and path.stem != "Lib"
     }
-    for crate, folder, name in sorted(there - named.keys()):
+    crate, named = None, set()
+    for number, line in lines_of(doc):
+        cells = [cell.strip() for cell in line.split("|")[1:-1]]
+        if len(cells) != 3:
+            continue
+        crate = cells[0].strip("`") or crate
+        for folder, cell in zip(("specs", "proofs"), cells[1:]):
+            for name in WORD.findall(cell):
+                named.add((crate, folder, name))
+                # the table's head names the two folders
+                if (crate, folder, name) not in there and name != f"{folder}/":
+                    say(doc, number, f"`{crate}` has no file `{name}` in {folder}/")
+    for crate, folder, name in sorted(there - named):
         say(doc, 0, f"the table of files lacks crates/{crate}/{folder}/{name}")
 
 

@@ -94,6 +94,7 @@ fn damages() -> Vec<Damage> {
             "-- Anew.\n",
             "the table of files lacks crates/solver/proofs/Anew",
         ),
+        damage("docs/ARCHITECTURE.md", "`Masks`", "`Sieves`", "`system` has no file `Sieves` in proofs/"),
         // The lines that a reader is asked for.
         damage(
             "crates/trees/specs/Fit.antt",
