@@ -1,4 +1,4 @@
-/* Writes the file of a small model, reads it back, judges it in each of the three ways, makes its bench page, and joins it with itself.
+/* Writes the file of a small model, reads it back, judges it in each of the four ways, makes its bench page, and joins it with itself.
  *
  *   rt staticlib solver_c
  *   cc -std=c99 -I include examples/judge_p.c target/staticlib/libsolver_c.a -o target/judge_p && target/judge_p
@@ -65,6 +65,11 @@ int main(void) {
     show_judged("by trees of one leaf", answer);
     solver_lent(file, length, 0, 3, two_leaves, 1, two_leaves, 0, answer);
     show_judged("by trees of two leaves and of one", answer);
+
+    /* One tree, for the greatest level, with a word for each leaf and one more. */
+    uint64_t room[3];
+    solver_one_sided(file, length, two_leaves, 1, room, 3, answer);
+    show_judged("by the one-sided route over two leaves", answer);
 
     /* The bench page of two lines: three rows of 41 bytes. */
     uint8_t page[SOLVER_MAX_PAGE];

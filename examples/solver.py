@@ -88,6 +88,11 @@ def lent(file: bytes, a: int, b: Optional[int], u: Sequence[int], v: Sequence[in
     return Judged(*_call("judging by lent trees", "solver_lent", "BnbBB", file, a, b, u, v)[1:3])
 
 
+def one_sided(file: bytes, v: Sequence[int]) -> Judged:
+    room = [0] * (len(v) + 2)
+    return Judged(*_call("judging by the one-sided route", "solver_one_sided", "BBQ", file, v, room)[1:3])
+
+
 def page(file: bytes) -> str:
     return _call("making the page", "solver_page", "BB", file, bytes(MAX_PAGE)).made.decode()
 

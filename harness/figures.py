@@ -14,7 +14,15 @@ JUDGES = {
     "levels": ("Rust, the same algorithm (levels)", "#d9730d", "7 3", "square"),
     "whole": ("Rust, a whole query at each leaf (whole)", "#6b6b6b", "2 3", "triangle"),
 }
-ROUTES = {"built": "built-in trees", "lent": "lent trees", "plain": "plain rounds"}
+ROUTES = {"built": "built-in trees", "lent": "lent trees", "plain": "plain rounds", "one-sided": "one-sided route"}
+# Whose queries are counted, by the run's column, in the same way.
+COUNTED = {
+    "built": ("built-in trees", "#6b6b6b", "2 3", "triangle"),
+    "one-sided": ("the one-sided route", "#0b5cad", "", "circle"),
+    "root": ("the square root of the first", "#999999", "7 3", ""),
+    "plain": ("plain rounds", "#d9730d", "7 3", "square"),
+}
+MODELS = {"sparse": "two or three operands a line", "hard": "hard for plain rounds", "2-of-3": "a third of the lines votes"}
 SECONDS = {"us": 1e-6, "ms": 1e-3, "s": 1.0}
 INK, GRID = "#222222", "#dddddd"
 
@@ -66,6 +74,8 @@ def line(x1, y1, x2, y2, colour=GRID, width=1, dashes=""):
 
 
 def mark(kind, x, y, colour, opacity=1):
+    if not kind:
+        return ""
     paint = f'fill="{colour}" fill-opacity="{opacity}"'
     if kind == "circle":
         return f'<circle cx="{x:.1f}" cy="{y:.1f}" r="4" {paint}/>'
@@ -95,53 +105,78 @@ def time_words(seconds):
     return f"{seconds / SECONDS['us']:g} µs"
 
 
-def legend(judges, y):
+def legend(series, y):
     x, parts = 24, []
-    for judge in judges:
-        words, colour, dashes, kind = JUDGES[judge]
+    for words, colour, dashes, kind in series.values():
         parts += [line(x, y, x + 32, y, colour, 2, dashes), mark(kind, x + 16, y, colour)]
         parts.append(text(x + 40, y + 4, words, "start"))
         x += 70 + 7 * len(words)
     return parts
 
 
-def times(title, run, name, column, axis, steps, place):
-    """A panel for each route: the time of one judgement by the numbers of a column, on a logarithmic scale."""
-    rows = list(judgements(*section(run, name)))
-    routes = [route for route in ROUTES if any(row[0] == route for row in rows)]
-    judges = [judge for judge in JUDGES if judge in rows[0][3]]
-    shown = [seconds[judge] for _, _, _, seconds, _ in rows for judge in judges]
+def panels(title, upwards, words_of, panels, series, axis, steps, place):
+    """A panel for each of some groups of points, which it has by series: numbers across, values upwards on a logarithmic scale."""
+    shown = [value for by_series in panels.values() for points in by_series.values() for _, value in points]
     low, high = math.floor(math.log10(min(shown))), math.ceil(math.log10(max(shown)))
-    panel, gap, left, top, tall = 260, 30, 80, 90, 280
-    width, height = left + len(routes) * (panel + gap), top + tall + 60
+    panel, gap, left, top, tall = 240, 30, 80, 90, 280
+    width, height = left + len(panels) * (panel + gap), top + tall + 60
 
-    def up(seconds):
-        return top + tall - tall * (math.log10(seconds) - low) / (high - low)
+    def up(value):
+        return top + tall - tall * (math.log10(value) - low) / (high - low)
 
     def across(number):
         return 16 + (panel - 32) * (place(number) - place(steps[0])) / (place(steps[-1]) - place(steps[0]))
 
-    parts = legend(judges, 52)
-    parts.append(text(24, top + tall / 2, "time of one judgement", turn="left"))
-    for i, route in enumerate(routes):
+    parts = legend(series, 52)
+    parts.append(text(24, top + tall / 2, upwards, turn="left"))
+    for i, (name, by_series) in enumerate(panels.items()):
         x = left + i * (panel + gap)
-        parts.append(text(x + panel / 2, top - 10, ROUTES[route], weight="bold"))
+        parts.append(text(x + panel / 2, top - 10, name, weight="bold"))
         for power in range(low, high + 1):
             parts.append(line(x, up(10**power), x + panel, up(10**power)))
             if i == 0:
-                parts.append(text(x - 8, up(10**power) + 4, time_words(10**power), "end"))
+                parts.append(text(x - 8, up(10**power) + 4, words_of(10**power), "end"))
         for step in steps:
             parts.append(text(x + across(step), top + tall + 20, step))
         parts.append(text(x + panel / 2, top + tall + 42, axis))
-        for judge in judges:
-            _, colour, dashes, kind = JUDGES[judge]
-            points = [(x + across(row[column]), up(row[3][judge])) for row in rows if row[0] == route]
+        for one, (_, colour, dashes, kind) in series.items():
+            points = [(x + across(number), up(value)) for number, value in by_series[one]]
             path = " ".join(f"{a:.1f},{b:.1f}" for a, b in points)
             parts.append(
                 f'<polyline points="{path}" fill="none" stroke="{colour}" stroke-width="2" stroke-dasharray="{dashes}"/>'
             )
             parts += [mark(kind, a, b, colour) for a, b in points]
     return picture(width, height, title, parts)
+
+
+def times(title, run, name, column, axis, steps, place):
+    """A panel for each route: the time of one judgement by the numbers of a column."""
+    rows = list(judgements(*section(run, name)))
+    judges = {judge: drawn for judge, drawn in JUDGES.items() if judge in rows[0][3]}
+    by_route = {
+        words: {judge: [(row[column], row[3][judge]) for row in rows if row[0] == route] for judge in judges}
+        for route, words in ROUTES.items()
+        if any(row[0] == route for row in rows)
+    }
+    return panels(title, "time of one judgement", time_words, by_route, judges, axis, steps, place)
+
+
+def queries(title, run, lines):
+    """A panel for each sort of model of so many lines: the queries of one judgement by levels, by each route. What did not end is left out."""
+    heading, rows = section(run, "the routes side by side")
+    rows = [dict(zip(heading[:8], row)) for row in rows]
+    by_model = {
+        words: {
+            route: [
+                (int(row["levels"]), float(row[route]))
+                for row in rows
+                if (row["model"], row["lines"]) == (model, lines) and row[route] != "over"
+            ]
+            for route in COUNTED
+        }
+        for model, words in MODELS.items()
+    }
+    return panels(title, "queries of one judgement", "{:,}".format, by_model, COUNTED, "levels", [2, 4, 6, 8], float)
 
 
 def ratios(title, run):
@@ -191,6 +226,7 @@ def main(run, folder):
             "Time by levels: 16 lines, two or three operands a line",
             run, "growth with the levels", 2, "levels", list(range(1, 9)), float,
         ),
+        "queries-by-levels.svg": queries("Queries by levels: 32 lines, over trees that are universal for them", run, "32"),
         "beside-rust.svg": ratios("The engine beside the same algorithm in Rust, each row of the run", run),
     }
     for name, drawn in figures.items():

@@ -22,7 +22,7 @@ extern "C" {
 #endif
 
 /* The section of docs/CHANGES.md that this header belongs to. */
-#define SOLVER_VERSION 12
+#define SOLVER_VERSION 13
 
 /* The limits of a model, and how much to lend so that it is enough for every model. */
 #define SOLVER_MAX_LINES 64
@@ -31,6 +31,7 @@ extern "C" {
 #define SOLVER_MAX_FILE 4248        /* bytes of a file: 16 + 8 + 2 * 64 + 8 * 64 * 8 */
 #define SOLVER_MAX_PAGE 2665        /* bytes of a bench page: 65 rows of 41 */
 #define SOLVER_MAX_READ_WORDS 512   /* selections that a reading fills: 64 lines, 8 levels; beside them 8 signs, 64 kinds, 64 thresholds */
+#define SOLVER_MAX_ROOM 1025        /* working words of the one-sided route: one more than the leaves of a lent tree */
 #define SOLVER_STACK 32768
 
 /* A level's sign, and a line's kind. */
@@ -87,6 +88,11 @@ void solver_plain(const uint8_t *file, size_t file_len, uint64_t a, uint64_t b, 
 void solver_built(const uint8_t *file, size_t file_len, uint64_t a, uint64_t b, uint64_t ceiling, uint64_t answer[SOLVER_WORDS]);
 void solver_lent(const uint8_t *file, size_t file_len, uint64_t a, uint64_t b, const uint8_t *u, size_t u_len, const uint8_t *v,
                  size_t v_len, uint64_t answer[SOLVER_WORDS]);
+
+/* Judging from no line to all lines by the one-sided route, over the gaps of one lent tree, that of the greatest levels. The words are its working room, one
+ * more than the tree's leaves: what these hold in the end is left free, and words after them are kept. Answers the set and the count. */
+void solver_one_sided(const uint8_t *file, size_t file_len, const uint8_t *v, size_t v_len, uint64_t *words, size_t words_len,
+                      uint64_t answer[SOLVER_WORDS]);
 
 /* The bench page of the judgement by built-in trees from no line to all lines, under a ceiling of 1,000,000: for n lines n + 1 rows of 41 bytes;
  * bytes after the page are kept. Answers the length. */

@@ -49,6 +49,15 @@ mod raw {
             buffer_len: usize,
             answer: *mut u64,
         );
+        pub fn solver_one_sided(
+            file: *const u8,
+            file_len: usize,
+            v: *const u8,
+            v_len: usize,
+            words: *mut u64,
+            words_len: usize,
+            answer: *mut u64,
+        );
         pub fn solver_join(
             first: *const u8,
             first_len: usize,
@@ -196,6 +205,20 @@ pub fn page_share(file: &[u8]) -> u64 {
     page_of(file)[24..28].trim_start().parse().expect("it is a number")
 }
 
+pub fn one_sided(file: &[u8], v: &[u8], words: &mut [u64]) -> Answer {
+    answered(|answer| unsafe {
+        raw::solver_one_sided(
+            file.as_ptr(),
+            file.len(),
+            v.as_ptr(),
+            v.len(),
+            words.as_mut_ptr(),
+            words.len(),
+            answer,
+        )
+    })
+}
+
 pub fn join(first: &[u8], second: &[u8], buffer: &mut [u8]) -> Answer {
     answered(|answer| unsafe {
         raw::solver_join(
@@ -221,7 +244,7 @@ pub fn parts_read(file: &[u8], n: usize, d: usize) -> Parts {
 }
 
 /// What every operation that takes a file answers, with nothing else to refuse if the file has n lines and d levels and the page's
-/// ceiling suffices: reading, one query, the three judgings, the page, and joining it with itself where that makes 64 lines at most.
+/// ceiling suffices: reading, one query, the four judgings, the page, and joining it with itself where that makes 64 lines at most.
 pub fn all_of_file(file: &[u8], n: usize, d: usize) -> Vec<Answer> {
     let all = full(n);
     let mut answers = vec![
@@ -230,6 +253,7 @@ pub fn all_of_file(file: &[u8], n: usize, d: usize) -> Vec<Answer> {
         plain(file, 0, all, u64::MAX),
         built(file, 0, all, u64::MAX),
         lent(file, 0, all, &[], &[]),
+        one_sided(file, &[], &mut [0; 2]),
         page(file, &mut [0; 2665]),
     ];
     if 2 * n <= 64 {

@@ -11,7 +11,7 @@ use benchmark::judges::{Layout, Route};
 use benchmark::measure::{Effort, FULL, QUICK};
 use benchmark::stack::{print_stacks, run_on};
 use benchmark::subjects::{Make, Subject};
-use benchmark::tables::{heading, print_joins, print_pages, print_refusals, row};
+use benchmark::tables::{heading, print_joins, print_pages, print_refusals, print_routes, row};
 
 /// The processor's name, where the machine tells it.
 fn processor() -> String {
@@ -32,18 +32,19 @@ fn run(effort: Effort) -> bool {
     println!("of queries a second, and the medians of the engine's time / each other's; growth: its time / the row's before. Signs");
     println!("and kinds alternate, and the files are old ones, but where the title says otherwise.");
 
-    let routes = [Route::Built, Route::Lent, Route::Plain];
+    let routes = [Route::Built, Route::Lent, Route::Plain, Route::OneSided];
     let old = |make: Make| (make, Layout::Old);
     for (route, title) in routes.into_iter().zip([
         "by built-in trees, 64 lines",
         "by lent trees, 64 lines (the largest built-in trees that may be lent)",
         "plainly, 64 lines, ceiling 200,000",
+        "by the one-sided route, 64 lines (the largest built-in tree that may be lent)",
     ]) {
         heading(title, Layout::Old);
         for levels in [2, 4, 6, 8] {
             row((effort, &mut largest), old(Subject::dense), (64, levels), route, None);
             row((effort, &mut largest), old(Subject::sparse), (64, levels), route, None);
-            if route == Route::Plain {
+            if matches!(route, Route::Plain | Route::OneSided) {
                 row((effort, &mut largest), old(Subject::hard), (64, levels), route, None);
             }
         }
@@ -81,6 +82,7 @@ fn run(effort: Effort) -> bool {
         }
     }
 
+    print_routes(effort, &mut largest);
     print_refusals(effort, &mut largest);
     print_pages(effort, &mut largest);
     print_joins(effort, &mut largest);

@@ -196,6 +196,7 @@ fn the_sizes_of_the_header_are_the_engines() {
         ("MAX_LINES", lines),
         ("MAX_PAGE", row * (lines + 1)),
         ("MAX_READ_WORDS", lines * levels),
+        ("MAX_ROOM", gaps + 2),
     ];
     assert_eq!(macros, expected.map(|(name, number)| (name.to_string(), number)).into());
 }
@@ -249,7 +250,7 @@ fn the_shared_library_has_the_functions_of_the_header_and_no_other() {
         header.split("\nvoid ").skip(1).map(|rest| rest.split('(').next().expect("there is a name"));
     let expected: BTreeSet<(String, String)> =
         functions.map(|name| (name.to_string(), "T".to_string())).collect();
-    assert_eq!(expected.len(), 8);
+    assert_eq!(expected.len(), 9);
     assert_eq!(dynamic_symbols("--defined-only").into_iter().collect::<BTreeSet<_>>(), expected);
 }
 
@@ -342,7 +343,7 @@ fn refused(number: u64, operation: &str, forecast: u64) -> String {
 #[test]
 fn the_module_is_short_and_its_example_right() {
     let module = text("examples/solver.py");
-    assert!(module.lines().count() < 120, "{} lines", module.lines().count());
+    assert!(module.lines().count() < 125, "{} lines", module.lines().count());
     let longest = module.lines().map(|line| line.chars().count()).max();
     assert!(longest <= Some(120), "{longest:?} characters");
     let example = between(&module, "\n>>> ", "\n\"\"\"\n").lines().count();
@@ -403,6 +404,12 @@ fn python_judges() {
         ("lent(p, 0, 3, [1] * 1023, [1]).count", "2048"),
         (r#"plain(model("q")), built(model("q"))"#, "(Judged(set=0, count=3), Judged(set=0, count=4))"),
         (r#"lent(model("q"), 0, 3, [], [])"#, "Judged(set=1, count=1)"),
+        ("one_sided(p, [1]), one_sided(p, bytes([1]))", "(Judged(set=3, count=8), Judged(set=3, count=8))"),
+        (
+            r#"one_sided(model("q"), [1]), one_sided(model("q"), [])"#,
+            "(Judged(set=0, count=3), Judged(set=3, count=3))",
+        ),
+        ("one_sided(p, [1] * 1023).set", "3"),
         // Between equal bounds nothing is left to judge.
         ("plain(p, 1, 1).set, built(p, 2, 2).set, lent(p, 1, 1, [], []).set", "(1, 2, 1)"),
         // Twice: the two sound pyrometers, the vote, and nothing new.
@@ -435,12 +442,13 @@ fn python_makes_pages_and_joins() {
 }
 
 /// The operations that take a file, called with `file`; the last two take two. Of two, one that is refused by itself is so by reading.
-const OF_A_FILE: [(&str, &str); 8] = [
+const OF_A_FILE: [(&str, &str); 9] = [
     ("reading", "read(file)"),
     ("one query", "query(file, [0, 0])"),
     ("judging plainly", "plain(file)"),
     ("judging by built-in trees", "built(file)"),
     ("judging by lent trees", "lent(file, 0, None, [], [])"),
+    ("judging by the one-sided route", "one_sided(file, [])"),
     ("making the page", "page(file)"),
     ("reading", "join(file, p)"),
     ("reading", "join(p, file)"),
@@ -510,6 +518,8 @@ fn python_raises_every_other_refusal() {
         ("lent(p, 0, None, [1] * 1024, [])", refused(11, by_lent, 0)),
         ("lent(p, 0, None, [], [2])", refused(11, by_lent, 0)),
         ("lent(p, 0, None, [0], [])", refused(11, by_lent, 0)),
+        ("one_sided(p, [2])", refused(11, "judging by the one-sided route", 0)),
+        ("one_sided(p, [1] * 1024)", refused(11, "judging by the one-sided route", 0)),
         (r#"page(model("largest"))"#, refused(10, "making the page", 6_996_025)),
         (r#"join(p, model("q"))"#, refused(15, "joining", 0)),
         (r#"join(p, model("one-line"))"#, refused(15, "joining", 0)),
@@ -558,6 +568,7 @@ fn python_cuts_no_number() {
         "lent(p, 0, -1, [], [])",
         "lent(p, 0, 3, [256 + 1], [])",
         "lent(p, 0, 3, [], [-255])",
+        "one_sided(p, [256 + 1])",
         "query(p, [2**64, 0])",
         "query(p, [0, -1])",
         "write(Model([0, 257], [1, 0], [0, 0], [2, 0, 0, 1]))",
@@ -623,6 +634,11 @@ void solver_lent(const uint8_t *file, size_t file_len, uint64_t a, uint64_t b, c
     answered(EMPTY(file) && a == 1 && b == 2 && EMPTY(u) && EMPTY(v), answer);
 }
 
+void solver_one_sided(const uint8_t *file, size_t file_len, const uint8_t *v, size_t v_len, uint64_t *words, size_t words_len,
+                      uint64_t answer[SOLVER_WORDS]) {
+    answered(EMPTY(file) && EMPTY(v) && FILLED(words, 2), answer);
+}
+
 void solver_page(const uint8_t *file, size_t file_len, uint8_t *buffer, size_t buffer_len, uint64_t answer[SOLVER_WORDS]) {
     answered(EMPTY(file) && FILLED(buffer, SOLVER_MAX_PAGE), answer);
 }
@@ -645,6 +661,7 @@ fn python_lends_no_null_pointer() {
         ("write(Model([], [], [], []))", "b''"),
         (r#"query(b"", [])"#, "0"),
         (r#"lent(b"", 1, 2, [], [])"#, "Judged(set=0, count=0)"),
+        (r#"one_sided(b"", [])"#, "Judged(set=0, count=0)"),
         (r#"page(b"")"#, ""),
         (r#"join(b"", b"")"#, "b''"),
     ];
@@ -655,6 +672,7 @@ fn python_lends_no_null_pointer() {
         "write(Model([], [], [0], []))",
         r#"query(b"", [0])"#,
         r#"lent(b"", 1, 3, [], [])"#,
+        r#"one_sided(b"", [1])"#,
     ];
     for shown in shown_with(&library, &unlike) {
         assert!(shown.starts_with("Refused|4|"), "{shown}");

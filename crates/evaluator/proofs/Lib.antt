@@ -1,4 +1,3 @@
-pub mod FoundLines
 pub mod LookedLines
 pub mod Needs
 pub mod OuterLevels

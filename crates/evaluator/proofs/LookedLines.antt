@@ -3,19 +3,16 @@
 use mathlib.Core.Bool.{Bool, true, false, not}
 use mathlib.Core.List.{List}
 use mathlib.Core.Path.{_≡_, refl, sym, _∙_, ap}
-use Prim.Native.Nat.{ℕ, _+_, _-_, _*_, _^_, _≤_, _<_}
+use Prim.Native.Nat.{ℕ, _+_, _*_, _^_, _≤_, _<_}
 use native.Mathlib.Omega.{arith}
-use native.Mathlib.Nat.{mul-comm, mul-assoc, lt-of-le-of-lt, lt-of-lt-of-le}
-use borrow.Author.Tests.{eq-eqb}
-use lib.Bits.{and-le-r}
+use native.Mathlib.Nat.{mul-comm, mul-assoc}
 use lib.Count.{trailingZeros}
 use lib.Dec.{eqb}
 use lib.ListN.{length, getD}
-use lib.Pow.{pow-mono}
 use Rattle.sets.specs.Set.{isMember, intersection, members}
-use Rattle.sets.proofs.Order.{digit}
 use Rattle.sets.proofs.Range.{member-below}
-use Rattle.sets.proofs.Membership.{Lowest, lowest}
+use Rattle.sets.proofs.Membership.{Lowest}
+use Rattle.sets.proofs.PassedLines.{lowest-line}
 use Rattle.numbers.specs.Numbers.{numberAt}
 use Rattle.system.specs.Query.{any, countSet, selected, wordsOf}
 use Rattle.model.specs.File.{wordsIn}
@@ -43,19 +40,13 @@ pub record Looked (bytes n at line rest t : ℕ) : Type 0 where
   pub one : t < n
   pub room : at + line * t + 8 ≤ bytes
 
--- the others are fewer
-pub others-fewer : (rest : ℕ) → (rest ≡ 0 → ⊥) → intersection rest (rest - 1) < rest
-others-fewer rest ne = omega (arith, and-le-r rest (rest - 1))
-
 module _ {file : List ℕ} {m : Model} (laid : LaidOut file m) {k : ℕ} (l : k < m .levels) {at line : ℕ} (ea : at ≡ wordsIn file + 8 * k) (el : line ≡ 8 * m .levels) where
   pub looked : {lines : ℕ} → lines < 2 ^ m .lines → (rest : ℕ) → rest ≤ lines → (rest ≡ 0 → ⊥) → Looked (length file) (m .lines) at line rest (trailingZeros 64 rest)
   looked few rest some ne =
       let t = trailingZeros 64 rest in
-      let below : rest < 2 ^ m .lines = lt-of-le-of-lt some few in
-      let low : Lowest 64 rest t = lowest 64 rest (lt-of-lt-of-le below (pow-mono (laid .few-lines))) ne in
-      let one : t < m .lines = member-below (m .lines) rest t below (eq-eqb (digit rest t) 1 (low .is-in)) in
+      let lowest = lowest-line (laid .few-lines) few rest some ne in
       let begin : 8 * m .levels * t ≡ 8 * (t * m .levels) = mul-assoc 8 (m .levels) t ∙ ap (λ (y : ℕ). 8 * y) (mul-comm (m .levels) t) in
-      record { low = low; one = one; room = omega (arith, laid .whole, line-fits (m .levels) one, ap (λ (y : ℕ). y * t) el) }
+      record { low = lowest .low; one = lowest .one; room = omega (arith, laid .whole, line-fits (m .levels) (lowest .one), ap (λ (y : ℕ). y * t) el) }
 
   -- the bits that the word of one of some lines selects
   same-bits : {lines : ℕ} → lines < 2 ^ m .lines → (x i : ℕ) → isMember lines i ≡ true → masked file at line x i ≡ selected 64 (getD (wordsOf (systemIn file m) i) k 0) x

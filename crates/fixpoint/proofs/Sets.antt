@@ -52,7 +52,7 @@ sets-lawful n = record {
 pub eqb-tells : Tells eqb
 eqb-tells = record { sound = λ {x} {y}. eqb-true x y; complete = λ x. eq-eqb x x (λ i. x) }
 
-members-span : (n : ℕ) → members (full n) ≤ members 0 + n
+pub members-span : (n : ℕ) → members (full n) ≤ members 0 + n
 members-span n = omega (arith, members-full n, members-empty)
 
 -- a lower bound within an upper bound of n lines

@@ -1,5 +1,5 @@
 -- Request W6's promise, from the contracts alone: the judgement of a joined file is the two judgements side by side, wherever all three calls are accepted.
--- Each call is by plain rounds, by built-in trees or by universal lent trees, and they need not be alike.
+-- Each call is by plain rounds, by built-in trees, by universal lent trees or by the one-sided route over a universal tree, and they need not be alike.
 -- Assumes nothing.
 use mathlib.Core.List.{List}
 use mathlib.Core.Path.{_≡_, refl, sym, _∙_, ap, ap₂}
@@ -16,7 +16,7 @@ use Rattle.writer.specs.Says.{writtenAnswer}
 use Rattle.writer.specs.declared.Written.{Written}
 use Rattle.joiner.specs.Says.{JoinSays}
 use Rattle.joiner.proofs.Passed.{join-passes}
-use Rattle.joined_judgement.specs.Judges.{fileMade, Judges, plainly, by-built-trees, by-universal-trees}
+use Rattle.joined_judgement.specs.Judges.{fileMade, Judges, plainly, by-built-trees, by-universal-trees, one-sidedly}
 use Rattle.joined_judgement.proofs.JoinedFiles.{formed₁, formed₂, accepts, joined-accepted}
 
 -- the nested fixpoint of a system from no line to all lines
@@ -29,6 +29,7 @@ unfolding decode
 judged-nested (plainly says ok) = says .nested (none-of _ _ _ (says .answer) refl ok)
 judged-nested (by-built-trees says ok) = says .nested (none-over _ _ _ _ (says .answer) refl ok)
 judged-nested (by-universal-trees says ok least greatest) = says .nested (none-of _ _ _ (says .answer) refl ok) least greatest
+judged-nested (one-sidedly says ok greatest) = says .nested (none-of _ _ _ (says .answer) refl ok) greatest
 
 pub side-by-side :
     (first second buffer buffer′ : List ℕ) (w : Written) → JoinSays first second buffer w buffer′ → writtenAnswer w .number ≡ 0

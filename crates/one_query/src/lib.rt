@@ -1,8 +1,9 @@
 // The set of one query, line by line: no argument stays for a further query, so nothing is carried.
 ghost use mathlib.Core.Path.{_≡_};
-ghost use Prim.Native.Nat.{_+_, _*_, _≤_, _<_};
+ghost use Prim.Native.Nat.{_+_, _*_, _^_, _≤_, _<_};
 ghost use lib.Dec.{leb};
 ghost use lib.ListN.{length, take, drop};
+ghost use Rattle.sets.specs.Set.{intersection};
 ghost use Rattle.system.specs.Query as spec;
 ghost use Rattle.numbers.specs.Numbers.{wordsFrom};
 ghost use Rattle.model.specs.Held.{Held, systemIn};
@@ -98,4 +99,34 @@ pub fn evaluate(file: &[u8], m: Model, xs: &[u64]) -> u64
         i += 1;
     }
     set
+}
+
+// Those of some lines that are in the query's set: no other line is worked out. They are gone over from the lowest on.
+pub fn evaluate_lines(file: &[u8], m: Model, xs: &[u64], lines: u64) -> u64
+    requires { ⌜ Held (now file) m ⌝ }
+    requires { ⌜ (m .levels ≤ length (now xs)) × (lines < 2 ^ m .lines) ⌝ }
+    ensures { λ r. ⌜ r ≡ intersection lines (spec.query (systemIn (now (file .entry)) m) (take (m .levels) (now (xs .entry)))) ⌝ }
+{
+    let d = m.levels;
+    let at = words_in(file);
+    let line = 8 * d;
+    let mut rest = lines;
+    let mut found: u64 = 0;
+    while rest != 0 {
+        let i = u64::trailing_zeros(rest) as usize;
+        // The lines after the lowest; `rest ^ others` is the lowest alone.
+        let others = rest & (rest - 1);
+        if line_value(
+            file,
+            kind(file, m, i),
+            threshold(file, m, i),
+            at + line * i,
+            d,
+            xs,
+        ) {
+            found = found | (rest ^ others);
+        }
+        rest = others;
+    }
+    found
 }

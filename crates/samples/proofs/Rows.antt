@@ -15,8 +15,11 @@ use Rattle.reach.specs.Search.{successors, rounds}
 use Rattle.met_lines.specs.MetLines.{unionOf, metLines, metShare}
 use Rattle.text.specs.Text.{digits, places}
 use Rattle.page_layout.specs.Page.{rowsOf, page}
+use Rattle.one_sided.specs.OneSided.{descend, oneLevel, oneSided}
+use Rattle.one_sided.specs.Equations.{inTurn, generateLevel, generate}
+use Rattle.one_sided.specs.Stages.{anyChanged, alike, stage, dueAmong, stages, run}
 use Rattle.samples.specs.Table.{table, Holds}
 
 pub samples-hold : Holds table
-unfolding table nested extreme restricted level rise fall sumOver levelQueries restrictedQueries thenRounds settle plain leastAmong greatestAmong built halvedChildren leafCount grow children meetPreFixed joinPostFixed selected operands setOf query ones digits places rounded successors rounds unionOf metLines metShare rowsOf page
-samples-hold = (refl, (refl, (refl, (refl, (refl, (refl, (refl, (refl, (refl, (refl, (refl, (refl, (refl, (refl, (refl, (refl, (refl, (refl, (refl, (refl, (refl, (refl, (refl, (refl, (refl, (refl, (refl, (refl, (refl, (refl, (refl, (refl, tt))))))))))))))))))))))))))))))))
+unfolding table nested extreme restricted level rise fall sumOver levelQueries restrictedQueries thenRounds settle plain leastAmong greatestAmong built halvedChildren leafCount grow children meetPreFixed joinPostFixed selected operands setOf query ones digits places rounded successors rounds unionOf metLines metShare rowsOf page descend oneLevel oneSided inTurn generateLevel generate anyChanged alike stage dueAmong stages run
+samples-hold = (refl, (refl, (refl, (refl, (refl, (refl, (refl, (refl, (refl, (refl, (refl, (refl, (refl, (refl, (refl, (refl, (refl, (refl, (refl, (refl, (refl, (refl, (refl, (refl, (refl, (refl, (refl, (refl, (refl, (refl, (refl, (refl, (refl, (refl, (refl, (refl, (refl, tt)))))))))))))))))))))))))))))))))))))

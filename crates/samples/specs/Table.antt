@@ -4,13 +4,15 @@ use mathlib.Core.List.{List, [], _∷_, _++_}
 use mathlib.Core.Path.{_≡_}
 use Prim.Native.Nat.{ℕ}
 use Rattle.trees.specs.Built.{built, leafCount}
-use Rattle.system.specs.System.{System}
+use Rattle.system.specs.System.{System, sign}
 use Rattle.system.specs.Joined.{joined}
 use Rattle.admission.specs.Checks.{forecast}
 use Rattle.routes.specs.Routes.{builtLeast, builtGreatest, nestedSet, plainRun, restrictedSet, restrictedCount}
 use Rattle.share.specs.Share.{shareOf}
 use Rattle.met_lines.specs.MetLines.{metLines, metShare}
 use Rattle.page_layout.specs.Page.{page}
+use Rattle.one_sided.specs.Equations.{Equation, equationSystem}
+use Rattle.one_sided_route.specs.Route.{oneSidedSet, stagedRun}
 use Rattle.samples.specs.Models.{P, Q, one, deadEnds, pyrometers, oneLineTwice, spares, metAtLevel2, sixteenMet, idleLines}
 
 -- what the definitions give, and what the papers say or what follows from them by hand
@@ -32,6 +34,15 @@ over m a b u v = restrictedSet m a b u v ∷ restrictedCount m u v ∷ []
 -- the set and count over the built-in trees
 abbrev pub overBuilt : System → ℕ → ℕ → List ℕ
 overBuilt m a b = over m a b (builtLeast m (m .lines)) (builtGreatest m (m .lines))
+
+-- the one-sided set over a tree, then the set and the evaluations of the run by stages
+abbrev pub oneSidedly : System → List ℕ → List ℕ
+oneSidedly m v = oneSidedSet m v ∷ stagedRun m v .value ∷ stagedRun m v .queries ∷ []
+
+-- the variables of some equations: of each the bound, then the arguments, that of level 1 first
+abbrev pub variables : List Equation → List ℕ
+variables [] = []
+variables (e ∷ es) = e .bound ∷ e .arguments ++ variables es
 
 -- P's bench page as it is taped, in ASCII: `lines  2 levels 2 share 1000`, ` 0 all +` and ` 1 any +`, each with blanks up to 40 characters and a newline
 abbrev pub pageOfP : List ℕ
@@ -97,6 +108,20 @@ table =
     row (overBuilt (idleLines 4 (0 ∷ 0 ∷ 1 ∷ [])) 0 15) (15 ∷ 32 ∷ []) ∷
     -- 64 lines, four levels of each sign, as models/largest.model has them: 2,645 leaves on both sides
     row (leafCount 64 4 ∷ forecast (idleLines 64 (0 ∷ 1 ∷ 0 ∷ 1 ∷ 0 ∷ 1 ∷ 0 ∷ 1 ∷ [])) ∷ []) (2645 ∷ 6996025 ∷ []) ∷
+    -- The equations of document 001's Algorithm 1 (request W9), for least and greatest levels in turn, the innermost least, over two pairs of leaves: level 1 reads
+    -- the leaf's own variable, level 2 the one before it, level 3 the last of its pair, level 4 the one before its pair, level 5 the last of all.
+    row (variables (equationSystem (sign (idleLines 1 (0 ∷ 1 ∷ 0 ∷ 1 ∷ 0 ∷ []))) 5 (1 ∷ 2 ∷ 1 ∷ [])))
+    (0 ∷ 1 ∷ 0 ∷ 2 ∷ 0 ∷ 4 ∷ 1 ∷ 2 ∷ 1 ∷ 2 ∷ 0 ∷ 4 ∷ 2 ∷ 3 ∷ 2 ∷ 4 ∷ 2 ∷ 4 ∷ 3 ∷ 4 ∷ 3 ∷ 4 ∷ 2 ∷ 4 ∷ []) ∷
+    -- Its stages over two leaves, which are universal for two lines. P: x1 and x2 become 2 and 0, then 3 and 0, then 3 and 2, with two evaluations each; then x2
+    -- alone is due, becomes 3, and is evaluated once more. Q: 1 and 0; then x2 alone is due, and stays.
+    row (oneSidedly P (1 ∷ []) ++ oneSidedly Q (1 ∷ [])) (3 ∷ 3 ∷ 8 ∷ 0 ∷ 0 ∷ 3 ∷ []) ∷
+    -- Over one leaf, which is not universal, Q's x1 becomes 1, then 3, and stays.
+    row (oneSidedly Q []) (3 ∷ 3 ∷ 3 ∷ []) ∷
+    -- The dead ends with a greatest level: every variable is evaluated in the first stage, which gives x1 its 14, and then each of the other three once. With a
+    -- least one there is one leaf, and two evaluations of it.
+    row (oneSidedly (deadEnds 1) (1 ∷ 1 ∷ 1 ∷ []) ++ oneSidedly (deadEnds 0) []) (14 ∷ 14 ∷ 7 ∷ 2 ∷ 2 ∷ 2 ∷ []) ∷
+    -- Votes of two and of three over four leaves: in the stages 4, 2, 3, 3, 2 and 1 right sides are due, and 4, 2, 2, 2 and 1.
+    row (oneSidedly (pyrometers 2) (1 ∷ 1 ∷ 1 ∷ []) ++ oneSidedly (pyrometers 3) (1 ∷ 1 ∷ 1 ∷ [])) (7 ∷ 7 ∷ 15 ∷ 6 ∷ 6 ∷ 11 ∷ []) ∷
     []
 
 -- every row of a table holds

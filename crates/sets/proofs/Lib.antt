@@ -4,3 +4,4 @@ pub mod Members
 pub mod Extreme
 pub mod Membership
 pub mod SideBySide
+pub mod PassedLines

@@ -45,7 +45,7 @@ pub enum Judged {
 }
 
 // A reading's refusal as a judgement's. Of an accepted reading nothing is judged yet.
-fn hand_on(r: Reading) -> Judged
+pub fn hand_on(r: Reading) -> Judged
     ensures { λ j. ⌜ j ≡ handedOn r ⌝ }
 {
     match r {

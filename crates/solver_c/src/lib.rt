@@ -6,6 +6,7 @@ ghost use Rattle.reader.specs.Says.{readAnswer, ReadLeaves};
 ghost use Rattle.writer.specs.Says.{writeAnswer, WriteLeaves};
 ghost use Rattle.joiner.specs.Says.{joinAnswer, JoinLeaves};
 ghost use Rattle.solver.specs.Says.{queryAnswer, plainAnswer, builtAnswer, lentAnswer};
+ghost use Rattle.one_sided_solver.specs.Says.{oneSidedAnswer, OneSidedLeaves};
 ghost use Rattle.bench_page.specs.Says.{pageAnswer, PageLeaves};
 ghost use Rattle.answer_c.specs.Words.{sixWords};
 use answer_c::put_judged;
@@ -84,6 +85,14 @@ pub extern "C" fn solver_lent(
     ensures { λ _. ⌜ now (answer .exit) ≡ sixWords (lentAnswer (now (file .entry)) a b (now (u .entry)) (now (v .entry))) ⌝ }
 {
     put_judged(answer, solver::solve_lent(file, a, b, u, v));
+}
+
+#[no_mangle]
+pub extern "C" fn solver_one_sided(file: &[u8], v: &[u8], words: &mut [u64], answer: &mut [u64; 6])
+    ensures { λ _. ⌜ now (answer .exit) ≡ sixWords (oneSidedAnswer (now (file .entry)) (now (v .entry)) (length (now (words .entry)))) ⌝ }
+    ensures { λ _. ⌜ OneSidedLeaves (now (file .entry)) (now (v .entry)) (now (words .entry)) (now (words .exit)) ⌝ }
+{
+    put_judged(answer, one_sided_solver::solve_one_sided(file, v, words));
 }
 
 #[no_mangle]

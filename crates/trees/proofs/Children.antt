@@ -1,5 +1,5 @@
 -- Trees and the children of their roots. A tree has as many leaves as its children have together.
--- Trees of height h grow into a tree of height h + 1, whose children they are, and the children of a tree of height h + 1 are such trees.
+-- Trees of height h grow into a tree of height h + 1, whose children they are, and the children of a tree of height h + 1 are such trees, from which it grows again.
 -- Assumes nothing.
 use mathlib.Core.Bool.{Bool, true, false}
 use mathlib.Core.List.{List, [], _∷_, _++_}
@@ -156,6 +156,21 @@ parts-total (inside ne r) = omega (arith, parts-total r)
 
 pub children-total : (h : ℕ) (gs : List ℕ) → total (children h gs) ≡ leaves gs
 children-total h gs = ap total (found h gs .some .are) ∙ parts-total (found h gs .parts)
+
+-- a tree grows from its children again
+grow-onto : (h g : ℕ) (p : List ℕ) (ps : List (List ℕ)) → grow h ((g ∷ p) ∷ ps) ≡ g ∷ grow h (p ∷ ps)
+unfolding grow
+grow-onto h g p [] = refl
+grow-onto h g p (q ∷ ps) = refl
+
+parts-grow : {h : ℕ} {gs p : List ℕ} {ps : List (List ℕ)} → Parts h gs p ps → grow h (p ∷ ps) ≡ gs
+unfolding grow
+parts-grow end = refl
+parts-grow {h} (cut r) = ap (λ (l : List ℕ). h ∷ l) (parts-grow r)
+parts-grow {h} (inside {g} {p = p} {ps = ps} ne r) = grow-onto h g p ps ∙ ap (λ (l : List ℕ). g ∷ l) (parts-grow r)
+
+pub grow-children : (h : ℕ) (gs : List ℕ) → grow h (children h gs) ≡ gs
+grow-children h gs = ap (grow h) (found h gs .some .are) ∙ parts-grow (found h gs .parts)
 
 parts-trees : {h : ℕ} {gs p : List ℕ} {ps : List (List ℕ)} → Parts (suc h) gs p ps → IsTree (suc h) gs → Trees h (p ∷ ps)
 parts-trees end i = more leaf none

@@ -1,13 +1,15 @@
-//! The three routes, the bench page and joining in safe Rust over the same bytes as the engine, with the same checks. The benchmark
+//! The four routes, the bench page and joining in safe Rust over the same bytes as the engine, with the same checks. The benchmark
 //! compares their speed with the engine's. They prove nothing and are no reference.
 //!
 //! - `whole`: a whole query at each leaf, and the recursion of document 01.
-//! - `by_levels`: the engine's own algorithm.
+//! - `by_levels`: the engine's own algorithm for three of the routes.
+//! - `one_sided`: the engine's own algorithm for the one-sided route.
 //! - `page`: the bench page.
 //! - `join`: the joined file.
 
 pub mod by_levels;
 pub mod join;
+pub mod one_sided;
 pub mod page;
 pub mod whole;
 
@@ -181,6 +183,18 @@ impl<'a> Lent<'a> {
             return Err(11);
         }
         Ok((u, v))
+    }
+
+    /// The one tree of the one-sided route, with room for its variables in the words. Refusals 11, then 12.
+    fn one_of(m: Model, v: &'a [u8], words: &[u64]) -> Result<Lent<'a>, u64> {
+        let v = Lent { height: m.levels - m.least_levels(), gaps: v };
+        if v.is_bad() {
+            return Err(11);
+        }
+        if words.len() < v.gaps.len() + 2 {
+            return Err(12);
+        }
+        Ok(v)
     }
 
     fn is_bad(self) -> bool {

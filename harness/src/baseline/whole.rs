@@ -1,6 +1,6 @@
 //! A whole query at each leaf, and the recursion of document 01.
 
-use super::{answer, answer_under, u64_at, Found, Lent, Model, ALL, VOTE};
+use super::{answer, answer_under, full_set, u64_at, Found, Lent, Model, ALL, VOTE};
 use crate::Answer;
 
 impl Model<'_> {
@@ -26,6 +26,39 @@ impl Model<'_> {
                 _ => pairs.any(|(word, x)| word & x != 0),
             };
             set |= (value as u64) << i;
+        }
+        set
+    }
+
+    /// The same for some lines alone, the lowest first.
+    pub(super) fn query_lines(self, xs: &[u64; 8], lines: u64) -> u64 {
+        let words = &self.file[self.words_at()..];
+        let records = &self.file[self.kinds_at()..];
+        let mut rest = lines;
+        let mut set = 0;
+        while rest != 0 {
+            let i = rest.trailing_zeros() as usize;
+            let others = rest & (rest - 1);
+            let record = &records[i * self.record..][..self.record];
+            let line = &words[i * 8 * self.levels..][..8 * self.levels];
+            let mut pairs = line.chunks_exact(8).map(|bytes| u64_at(bytes, 0)).zip(xs);
+            let value = match record[0] {
+                VOTE => {
+                    let mut needed = record[1] as u32;
+                    pairs.any(|(word, x)| {
+                        let hits = (word & x).count_ones();
+                        let reached = hits >= needed;
+                        needed = needed.saturating_sub(hits);
+                        reached
+                    })
+                }
+                ALL => pairs.all(|(word, x)| word & !x == 0),
+                _ => pairs.any(|(word, x)| word & x != 0),
+            };
+            if value {
+                set |= rest ^ others;
+            }
+            rest = others;
         }
         set
     }
@@ -186,4 +219,55 @@ pub fn lent(file: &[u8], a: u64, b: u64, u: &[u8], v: &[u8]) -> Answer {
         let (u, v) = Lent::of(m, u, v)?;
         Ok(lent_level(m, m.levels, &[0; 8], a, b, u, v))
     }))
+}
+
+// ---- the one-sided route: the equations as data, and all of them gone over in every stage ----
+
+/// The bound of an equation, and its arguments; its own variable is its place, from 1.
+type Equation = (usize, [usize; 8]);
+
+fn generate(m: Model, k: usize, args: &[usize; 8], b: usize, v: Lent, equations: &mut Vec<Equation>) {
+    let Some(below) = k.checked_sub(1) else {
+        equations.push((b, *args));
+        return;
+    };
+    let mut ys = *args;
+    if !m.is_greatest(below) {
+        ys[below] = equations.len() + v.gaps.len() + 1;
+        return generate(m, below, &ys, b, v, equations);
+    }
+    let (mut bound, mut rest) = (b, Some(v));
+    while let Some(tree) = rest {
+        let (child, others) = tree.split();
+        ys[below] = bound;
+        generate(m, below, &ys, bound, child, equations);
+        (bound, rest) = (equations.len(), others);
+    }
+}
+
+fn stages(m: Model, v: Lent) -> Found {
+    let mut equations = Vec::new();
+    generate(m, m.levels, &[0; 8], 0, v, &mut equations);
+    let mut state = vec![0; equations.len() + 1];
+    state[0] = full_set(m.lines);
+    let mut changed = vec![true; state.len()];
+    let mut count = 0;
+    while changed.contains(&true) {
+        let mut next = state.clone();
+        for (i, &(b, args)) in equations.iter().enumerate() {
+            if changed[b] || args[..m.levels].iter().any(|&y| changed[y]) {
+                next[i + 1] = state[b] & m.query(&args.map(|y| state[y]));
+                count += 1;
+            }
+        }
+        for (flag, (before, after)) in changed.iter_mut().zip(state.iter().zip(&next)) {
+            *flag = before != after;
+        }
+        state = next;
+    }
+    Found { set: state[equations.len()], count }
+}
+
+pub fn one_sided(file: &[u8], v: &[u8], words: &mut [u64]) -> Answer {
+    answer(Model::check(file).and_then(|m| Ok(stages(m, Lent::one_of(m, v, words)?))))
 }

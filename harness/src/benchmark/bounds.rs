@@ -9,15 +9,18 @@ pub enum Bound {
     VotesPlainly,
     /// Rust with a whole query at each leaf, over trees at 64 lines.
     Whole,
+    /// Built-in trees, by the one-sided route, at 64 lines and 8 levels.
+    OneSided,
     /// The deepest runs.
     Stack,
 }
 
 /// Each with its words and the most that is allowed.
-pub const BOUNDS: [(Bound, &str, f64); 4] = [
+pub const BOUNDS: [(Bound, &str, f64); 5] = [
     (Bound::Levels, "its time / the same algorithm's in Rust (levels)", 1.1),
     (Bound::VotesPlainly, "the same, votes by plain rounds", 1.8),
     (Bound::Whole, "its time / Rust's with whole queries (whole), over trees at 64 lines", 0.1),
+    (Bound::OneSided, "its time by the one-sided route / by built-in trees, 64 lines, 8 levels", 0.5),
     (Bound::Stack, "its stack in KiB", 32.0),
 ];
 

@@ -2,7 +2,7 @@
 
 use std::hint::black_box;
 
-use harness::baseline::{by_levels, whole};
+use harness::baseline::{by_levels, one_sided, whole};
 use harness::{ffi, Answer};
 
 /// Who judges.
@@ -78,6 +78,15 @@ impl Judge {
             Judge::Earlier => ffi::earlier::lent(file, a, b, u, v),
         }
     }
+
+    /// An earlier engine, which may not have the route, is today's engine here.
+    pub fn one_sided(self, file: &[u8], v: &[u8], words: &mut [u64]) -> Answer {
+        match self {
+            Judge::Whole => whole::one_sided(file, v, words),
+            Judge::Levels => one_sided::one_sided(file, v, words),
+            _ => ffi::one_sided(file, v, words),
+        }
+    }
 }
 
 #[derive(Clone, Copy, Debug, PartialEq)]
@@ -85,6 +94,7 @@ pub enum Route {
     Built,
     Lent,
     Plain,
+    OneSided,
 }
 
 impl Route {
@@ -93,6 +103,7 @@ impl Route {
             Route::Built => "built",
             Route::Lent => "lent",
             Route::Plain => "plain",
+            Route::OneSided => "one-sided",
         }
     }
 }

@@ -16,21 +16,25 @@ pub enum Deepest {
     Lent,
     /// 64 lines and 8 levels.
     Built,
+    /// The one-sided route with 1,023 gaps, all at the root, and 8 levels.
+    OneSided,
 }
 
-pub const DEEPEST: [(&str, Deepest); 2] = [("lent", Deepest::Lent), ("built", Deepest::Built)];
+pub const DEEPEST: [(&str, Deepest); 3] =
+    [("lent", Deepest::Lent), ("built", Deepest::Built), ("one-sided", Deepest::OneSided)];
 
 impl Deepest {
     /// Whether the run ends as it must.
     pub fn run(self, judge: Judge) -> bool {
         let lines = match self {
             Deepest::Lent => 1,
-            Deepest::Built => 64,
+            Deepest::Built | Deepest::OneSided => 64,
         };
         let file = model_of(7, lines, 8, &[Kind::Any], Density::Few).old_file();
         match self {
             Deepest::Lent => judge.lent(&file, 0, 1, &[4; 1023], &[4; 1023]).count == 1024 * 1024,
             Deepest::Built => judge.built(&file, 0, u64::MAX).count == 2645 * 2645,
+            Deepest::OneSided => judge.one_sided(&file, &[4; 1023], &mut [0; 1025]).count >= 1024,
         }
     }
 }
@@ -66,14 +70,14 @@ pub fn stack_needed(trees: &str, judge: Judge) -> Option<usize> {
 }
 
 pub fn print_stacks(largest: &mut Largest) {
-    println!("\nstack of the deepest runs at 8 levels, in KiB: lent trees with 1,023 gaps on both sides; built-in trees, 64 lines");
-    print!("{:6}", "");
+    println!("\nstack of the deepest runs at 8 levels, in KiB: lent trees with 1,023 gaps, on both sides and on one; built-in trees, 64 lines");
+    print!("{:9}", "");
     for judge in JUDGES {
         print!(" {:>8}", judge.name());
     }
     println!();
     for (trees, _) in DEEPEST {
-        print!("{trees:6}");
+        print!("{trees:9}");
         for &judge in JUDGES {
             let needed = stack_needed(trees, judge);
             match needed {
@@ -90,7 +94,7 @@ pub fn print_stacks(largest: &mut Largest) {
 
 /// Ends without an error if a deepest run does so on a thread with this stack.
 pub fn run_on(trees: &str, judge: &str, kib: &str) {
-    let &(_, deepest) = DEEPEST.iter().find(|(name, _)| *name == trees).expect("lent or built");
+    let &(_, deepest) = DEEPEST.iter().find(|(name, _)| *name == trees).expect("one of the names");
     let &judge = JUDGES.iter().find(|known| known.name() == judge).expect("a judge's name");
     let stack = 1024 * kib.parse::<usize>().expect("a number of KiB");
     let thread = std::thread::Builder::new().stack_size(stack).spawn(move || deepest.run(judge));

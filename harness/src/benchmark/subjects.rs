@@ -15,6 +15,7 @@ pub const CEILING: u64 = 200_000;
 pub struct Subject {
     pub name: &'static str,
     pub lines: usize,
+    pub levels: usize,
     pub votes: bool,
     pub file: Vec<u8>,
     pub u: Vec<u8>,
@@ -43,6 +44,7 @@ impl Subject {
         Subject {
             name,
             lines,
+            levels: model.levels(),
             votes: model.kinds.iter().any(|kind| matches!(kind, Kind::AtLeast(_))),
             file: if layout == Layout::Old { model.old_file() } else { model.file() },
             built_queries: forecast(&model),
@@ -92,6 +94,7 @@ impl Subject {
             Route::Built => self.built_queries,
             Route::Lent => self.lent_queries,
             Route::Plain => CEILING,
+            Route::OneSided => (self.v.len() as u64 + 1) * (1 + self.lines * self.levels) as u64,
         }
     }
 
@@ -101,6 +104,7 @@ impl Subject {
             Route::Built => judge.built(file, a, b),
             Route::Lent => judge.lent(file, a, b, black_box(&self.u), black_box(&self.v)),
             Route::Plain => judge.plain(file, a, b, black_box(CEILING)),
+            Route::OneSided => judge.one_sided(file, black_box(&self.v), &mut black_box([0; 1025])),
         }
     }
 }

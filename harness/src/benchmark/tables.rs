@@ -8,6 +8,7 @@ use harness::baseline::join::join;
 use harness::baseline::page::page;
 use harness::lending::file_length;
 use harness::random::full;
+use harness::reference::Tree;
 use harness::{ffi, Answer, PROGRAM_CEILING};
 
 use super::bounds::{Bound, Largest};
@@ -16,7 +17,7 @@ use super::measure::{measure, time, Effort, Times};
 use super::subjects::{Make, Subject, CEILING};
 
 pub fn heading(title: &str, layout: Layout) {
-    print!("\n{title}\n{:5} {:>5} {:>6} {:6} {:>9}", "route", "lines", "levels", "model", "queries");
+    print!("\n{title}\n{:9} {:>5} {:>6} {:6} {:>9}", "route", "lines", "levels", "model", "queries");
     for judge in judges_of(layout) {
         print!(" {:>8}", judge.name());
     }
@@ -57,7 +58,7 @@ pub fn row(
     let judges: Vec<&dyn Fn(&Subject) -> Answer> = judges.iter().map(|judge| judge as _).collect();
     let Times { seconds, ratios } = measure(effort, &models, &judges);
     let queries = total as f64 / models.len() as f64;
-    print!("{:5} {lines:5} {levels:6} {:6} {queries:9.0}", route.name(), first.name);
+    print!("{:9} {lines:5} {levels:6} {:6} {queries:9.0}", route.name(), first.name);
     for &seconds in &seconds {
         print!(" {:>8}", time(seconds));
     }
@@ -70,11 +71,79 @@ pub fn row(
         match judge {
             Judge::Levels if first.votes && route == Route::Plain => largest.note(Bound::VotesPlainly, ratio),
             Judge::Levels => largest.note(Bound::Levels, ratio),
-            Judge::Whole if lines == 64 && route != Route::Plain => largest.note(Bound::Whole, ratio),
+            Judge::Whole if lines == 64 && matches!(route, Route::Built | Route::Lent) => {
+                largest.note(Bound::Whole, ratio)
+            }
             _ => (),
         }
     }
     Some(seconds[0])
+}
+
+// ---- the routes side by side ----
+
+/// The engine's queries and times by the one-sided route, by built-in trees and by plain rounds, on the same models.
+pub fn print_routes(effort: Effort, largest: &mut Largest) {
+    println!("\nthe routes side by side: the engine's queries and times over the built-in tree of the greatest levels (whole) or the largest that may be lent (part), by built-in trees, plainly; root: of built; last: one-sided time / built");
+    println!(
+        "{:6} {:>5} {:>6} {:>5} {:>9} {:>9} {:>5} {:>9} {:>9} {:>9} {:>9} {:>6}",
+        "model",
+        "lines",
+        "levels",
+        "tree",
+        "one-sided",
+        "built",
+        "root",
+        "plain",
+        "one-sided",
+        "built",
+        "plain",
+        "built"
+    );
+    let makes: [Make; 3] = [Subject::sparse, Subject::hard, Subject::votes];
+    let routes = [Route::OneSided, Route::Built, Route::Plain];
+    for lines in [32, 64] {
+        for make in makes {
+            for levels in [2, 4, 6, 8] {
+                let models: Vec<Subject> =
+                    (1..=effort.large_models).map(|seed| make(Layout::New, seed, lines, levels)).collect();
+                let Subject { name, v, built_queries, .. } = &models[0];
+                if *built_queries > effort.most_queries {
+                    continue;
+                }
+                let whole = Tree::built_in(lines, levels / 2).leaf_count() == v.len() as u64 + 1;
+                let mean = |route: Route| {
+                    let counts = models.iter().map(|model| model.judged(Judge::Engine, route));
+                    let counts: Vec<Answer> = counts.collect();
+                    let over = counts.iter().any(|answer| answer.number != 0);
+                    (!over).then(|| {
+                        counts.iter().map(|answer| answer.count as f64).sum::<f64>() / counts.len() as f64
+                    })
+                };
+                let calls = routes.map(|route| move |model: &Subject| model.judged(Judge::Engine, route));
+                let calls: Vec<&dyn Fn(&Subject) -> Answer> = calls.iter().map(|call| call as _).collect();
+                let times = measure(effort, &models, &calls);
+                let [one_sided, built, plain] = routes.map(mean);
+                let told =
+                    |count: Option<f64>| count.map_or("over".to_string(), |count| format!("{count:.0}"));
+                println!(
+                    "{name:6} {lines:5} {levels:6} {:>5} {:>9} {:>9} {:5.0} {:>9} {:>9} {:>9} {:>9} {:6.2}",
+                    if whole { "whole" } else { "part" },
+                    told(one_sided),
+                    told(built),
+                    (*built_queries as f64).sqrt(),
+                    told(plain),
+                    time(times.seconds[0]).replace(' ', ""),
+                    time(times.seconds[1]).replace(' ', ""),
+                    time(times.seconds[2]).replace(' ', ""),
+                    times.ratios[1]
+                );
+                if (lines, levels) == (64, 8) {
+                    largest.note(Bound::OneSided, times.ratios[1]);
+                }
+            }
+        }
+    }
 }
 
 // ---- a refused forecast ----

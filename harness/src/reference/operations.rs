@@ -2,6 +2,7 @@
 
 use super::forecast::{built_in_trees, over};
 use super::model::{set_of, within, word_of, Model, Parts, Set};
+use super::one_sided::by_stages;
 use super::plain::rounds;
 use super::restricted::restricted;
 use super::tree::Tree;
@@ -160,5 +161,24 @@ pub fn lent(file: &[u8], a: u64, b: u64, u: &[u8], v: &[u8]) -> Answer {
         return Answer::refused(11);
     };
     let (set, count) = restricted(&model, &lower, &upper, &u, &v);
+    Answer::judged(word_of(&set), count)
+}
+
+/// In so many lent words. What it leaves in those for its variables is free.
+pub fn one_sided(file: &[u8], v: &[u8], room: usize) -> Answer {
+    let model = match Model::from_file(file) {
+        Ok(model) => model,
+        Err(number) => return Answer::refused(number),
+    };
+    if v.len() > 1023 {
+        return Answer::refused(11);
+    }
+    let Some(tree) = Tree::from_gaps(model.greatest_levels(), v) else {
+        return Answer::refused(11);
+    };
+    if (room as u64) < tree.leaf_count() + 1 {
+        return Answer::refused(12);
+    }
+    let (set, count) = by_stages(&model, &tree);
     Answer::judged(word_of(&set), count)
 }

@@ -15,8 +15,8 @@ use lib.ListN.{length, getD, set, length-set}
 use lib.Seq.{getD-set-same, getD-set-other}
 use Rattle.sets.specs.Set.{isMember}
 use Rattle.system.specs.Query.{countSet}
-use Rattle.evaluator.proofs.FoundLines.{PassedSoFar, passed-none, passed-all, unpassed, passed-more}
-use Rattle.evaluator.proofs.LookedLines.{masked, count-masked, Looked, others-fewer, looked, in-lines}
+use Rattle.sets.proofs.PassedLines.{others-fewer, PassedSoFar, passed-none, passed-all, unpassed, passed-more}
+use Rattle.evaluator.proofs.LookedLines.{masked, count-masked, Looked, looked, in-lines}
 use Rattle.evaluator.proofs.lowered_row.Statement.{statement}
 use Rattle.evaluator.proofs.lowered_row.Tie as tie
 

@@ -18,8 +18,8 @@ use Rattle.sets.specs.Set.{isMember, union, intersection, members}
 use Rattle.sets.proofs.Members.{members-empty, members-some}
 use Rattle.sets.proofs.Membership.{member-differ}
 use Rattle.system.specs.Query.{countSet}
-use Rattle.evaluator.proofs.FoundLines.{FoundSoFar, found-none, found-all, found-same, found-one}
-use Rattle.evaluator.proofs.LookedLines.{masked, count-masked, Looked, others-fewer, looked, in-lines}
+use Rattle.sets.proofs.PassedLines.{others-fewer, FoundSoFar, found-none, found-all, found-same, found-one}
+use Rattle.evaluator.proofs.LookedLines.{masked, count-masked, Looked, looked, in-lines}
 use Rattle.evaluator.proofs.meeting.Statement.{statement}
 use Rattle.evaluator.proofs.meeting.Tie as tie
 

@@ -14,8 +14,8 @@ use lib.Dec.{eqb}
 use lib.ListN.{length}
 use Rattle.sets.specs.Set.{intersection}
 use Rattle.system.specs.Query.{any}
-use Rattle.evaluator.proofs.FoundLines.{FoundSoFar, found-none, found-all, found-more, found-same}
-use Rattle.evaluator.proofs.LookedLines.{masked, any-masked, Looked, others-fewer, looked, in-lines}
+use Rattle.sets.proofs.PassedLines.{others-fewer, FoundSoFar, found-none, found-all, found-more, found-same}
+use Rattle.evaluator.proofs.LookedLines.{masked, any-masked, Looked, looked, in-lines}
 use Rattle.evaluator.proofs.selecting.Statement.{statement}
 use Rattle.evaluator.proofs.selecting.Tie as tie
 

@@ -1,34 +1,26 @@
 -- `one_query::evaluate` meets its contract. The loop's invariant: the set has the value of every line passed,
 -- and the next line's words begin at `at`. The measure is the lines left.
 -- Assumes nothing.
-use mathlib.Core.Bool.{Bool}
 use mathlib.Core.List.{List}
 use denote.Ref.{now}
-use mathlib.Core.Path.{_≡_, refl, sym, _∙_, ap, ap₂}
+use mathlib.Core.Path.{_≡_, refl, sym, _∙_, ap}
 use mathlib.Core.Logic.{⊎-elim}
 use Prim.Native.Nat.{ℕ, _+_, _-_, _*_, _^_, _≤_}
 use native.Mathlib.Nat.{suc-mul}
 use native.Mathlib.Numerals.{add-one}
 use native.Mathlib.Omega.{arith}
-use lib.ListN.{take, drop}
 use Rattle.sets.specs.Set.{union}
 use Rattle.sets.proofs.Membership.{one-shifted}
-use Rattle.system.specs.Query.{valueOf, lineValue, operands, wordsOf, setOf, query}
+use Rattle.system.specs.Query.{setOf, query}
 use Rattle.model.specs.File.{wordsIn}
-use Rattle.model.specs.Held.{systemIn}
 use Rattle.model.specs.declared.layout.Model.{Model}
-use Rattle.numbers.specs.Numbers.{wordsFrom}
-use Rattle.model.proofs.Lines.{words-of}
 use Rattle.model.proofs.Places.{header-whole}
 use Rattle.system.proofs.LineSets.{set-more, set-same}
 use Rattle.model.proofs.Sizes.{line-fits}
 use borrow.Author.Needs.{needs}
+use Rattle.one_query.proofs.Values.{valueAt, value-at}
 use Rattle.one_query.proofs.evaluate.Statement.{statement}
 use Rattle.one_query.proofs.evaluate.Tie as tie
-
--- the value of line i at the arguments in front of xs
-abbrev valueAt : List ℕ → Model → List ℕ → ℕ → Bool
-valueAt file m xs i = lineValue (systemIn file m) i (operands (wordsOf (systemIn file m) i) (take (m .levels) xs))
 
 record Going (file xs : List ℕ) (m : Model) (at set i : ℕ) : Type 0 where
   passed : i ≤ m .lines
@@ -68,12 +60,8 @@ value : (c : tie.After-line-value Inv-loop μ-loop) →
 value c =
     let z = c .before .before .before .before .before .before .before .before .args in
     let l = c .before .before .before .before .loop in
-    let d = z .m .levels in
-    let words = words-of (z .m .lines) d (now (z .file)) (l .i) (c .before .before .before .loop-test .taken) in
     c .line-value .ensures
-    ∙ ap₂ (λ (k t : ℕ). valueOf k t (operands (wordsFrom d (drop (l .at) (now (z .file)))) (take d (now (z .xs))))) (c .before .before .kind .ensures) (c .before .threshold .ensures)
-    ∙ ap (λ (ws : List ℕ). lineValue (systemIn (now (z .file)) (z .m)) (l .i) (operands ws (take d (now (z .xs)))))
-    (ap (λ (at : ℕ). wordsFrom d (drop at (now (z .file)))) (l .inv .words) ∙ sym words)
+    ∙ value-at (now (z .file)) (z .m) (now (z .xs)) (l .i) _ _ _ (c .before .before .before .loop-test .taken) (c .before .before .kind .ensures) (c .before .threshold .ensures) (l .inv .words)
 
 shl-set : tie.Need-shl-set Inv-loop μ-loop
 shl-set c =

@@ -1,20 +1,39 @@
--- Lines gone over from the lowest member on: what has become of those passed, with one line more; and which of them are found.
+-- Lines gone over from the lowest member on: the lowest, what has become of those passed, with one line more; and which of them are found.
 -- Assumes nothing.
 use mathlib.Core.Bool.{Bool, true, false, cond, not, _&&_, _||_, and-true, and-false, and-not-self}
 use mathlib.Core.Path.{_≡_, refl, sym, _∙_, ap}
-use Prim.Native.Nat.{ℕ, _-_, _≤_}
+use Prim.Native.Nat.{ℕ, _-_, _^_, _≤_, _<_}
 use native.Mathlib.Omega.{arith}
-use native.Mathlib.Nat.{le-trans}
+use native.Mathlib.Nat.{le-trans, lt-of-le-of-lt, lt-of-lt-of-le}
 use borrow.Author.Tests.{eqb-true, eqb-false, eq-eqb}
-use lib.Bits.{bitXor, and-le-l, or-zero-r}
+use lib.Bits.{bitXor, and-le-l, and-le-r, or-zero-r}
+use lib.Count.{trailingZeros}
 use lib.Dec.{eqb}
+use lib.Pow.{pow-mono}
 use Rattle.sets.specs.Set.{isMember, union, intersection}
 use Rattle.sets.proofs.Order.{digit}
-use Rattle.sets.proofs.Membership.{Lowest, member-join, member-differ, member-empty}
+use Rattle.sets.proofs.Membership.{Lowest, lowest, member-join, member-differ, member-empty}
+use Rattle.sets.proofs.Range.{member-below}
 
 -- the others are the rest without its lowest line
 abbrev others : ℕ → ℕ
 others rest = intersection rest (rest - 1)
+
+-- they are fewer
+pub others-fewer : (rest : ℕ) → (rest ≡ 0 → ⊥) → others rest < rest
+others-fewer rest ne = omega (arith, and-le-r rest (rest - 1))
+
+-- the lowest of the rest is one of n lines
+pub record LowestLine (n rest t : ℕ) : Type 0 where
+  pub low : Lowest 64 rest t
+  pub one : t < n
+
+pub lowest-line : {n lines : ℕ} → n ≤ 64 → lines < 2 ^ n → (rest : ℕ) → rest ≤ lines → (rest ≡ 0 → ⊥) → LowestLine n rest (trailingZeros 64 rest)
+lowest-line {n} most few rest some ne =
+    let t = trailingZeros 64 rest in
+    let below : rest < 2 ^ n = lt-of-le-of-lt some few in
+    let low : Lowest 64 rest t = lowest 64 rest (lt-of-lt-of-le below (pow-mono most)) ne in
+    record { low = low; one = member-below n rest t below (eq-eqb (digit rest t) 1 (low .is-in)) }
 
 module _ {rest t : ℕ} (l : Lowest 64 rest t) where
   was : isMember rest t ≡ true
