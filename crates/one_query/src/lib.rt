@@ -55,7 +55,7 @@ fn enough_operands(file: &[u8], at: usize, d: usize, xs: &[u64], t: u8) -> bool
     let mut need = t as u32;
     let mut k = 0;
     while k < d {
-        let count = sets::member_count(u64_at(file, at + 8 * k) & xs[k]);
+        let count = sets::member_count_at_once(u64_at(file, at + 8 * k) & xs[k]);
         if need <= count {
             return true;
         }

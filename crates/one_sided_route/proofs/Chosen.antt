@@ -7,7 +7,7 @@ use Prim.Native.Nat.{ℕ, zero, suc, _+_, _≤_, _<_}
 use native.Mathlib.Omega.{arith}
 use lib.ListN.{length, getD, take}
 use Rattle.one_sided.specs.Equations.{Equation}
-use Rattle.one_sided_route.specs.Parts.{flagCount}
+use Rattle.one_sided_stages.specs.Stages.{flagCount}
 
 module _ (due : Equation → Bool) where
   -- a stage that evaluates what is due: the equations, with the values that they had

@@ -30,8 +30,9 @@ use Rattle.one_sided.proofs.Stages.{value-in, below-value}
 use Rattle.one_sided.proofs.Equations.{generate-count}
 use Rattle.one_sided.proofs.Leaves.{leaf-equation, argument-at, argument-count}
 use Rattle.one_sided_route.specs.Route.{stagedRun}
-use Rattle.one_sided_route.specs.Parts.{argumentsIn, variablesIn, Spans, rightSideAt, Grows, Queued, Carried, Evaluated, Listed, Flagged, Cause, FlaggedFor}
-use Rattle.one_sided_route.proofs.Blocks.{argument-within}
+use Rattle.one_sided_leaves.specs.Leaves.{argumentsIn, variablesIn, Spans}
+use Rattle.one_sided_stages.specs.Stages.{rightSideAt, Grows, Queued, Carried, Evaluated, Listed, Flagged, Cause, FlaggedFor}
+use Rattle.one_sided_leaves.proofs.Blocks.{argument-within}
 use Rattle.one_sided_route.proofs.Chosen.{chosenCount, chosen-length, chosen-at, count-within, flags-count}
 use Rattle.one_sided_route.proofs.Ahead.{nextBy, Ahead, ahead-first, ahead-more, ahead-settled, ahead-spent}
 
@@ -292,7 +293,6 @@ module _ (file : List ℕ) (m : Model) (v : List ℕ) where
           due-spans {from} {to} {flags′} spans by i h =
               both-ways (getD flags′ i false) (due (sets n) eqb (r .t) u (getD es i blank)) caused flagged-so
             where
-
               is-due : due (sets n) eqb (r .t) u (getD es i blank) ≡ anyChanged eqb (valueIn (sets n) (r .t)) (valueIn (sets n) u) (variablesIn file m v i)
               is-due = ap (due (sets n) eqb (r .t) u) (equation-of i h)
 

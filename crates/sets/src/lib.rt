@@ -36,3 +36,10 @@ pub fn member_count(x: u64) -> u32
 {
     u32::count_ones((x / 4294967296) as u32) + u32::count_ones((x % 4294967296) as u32)
 }
+
+// The same, 64 bits at once: faster where most words that are looked at are counted.
+pub fn member_count_at_once(x: u64) -> u32
+    ensures { λ r. ⌜ r ≡ members x ⌝ }
+{
+    u64::count_ones(x)
+}

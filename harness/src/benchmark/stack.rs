@@ -34,7 +34,7 @@ impl Deepest {
         match self {
             Deepest::Lent => judge.lent(&file, 0, 1, &[4; 1023], &[4; 1023]).count == 1024 * 1024,
             Deepest::Built => judge.built(&file, 0, u64::MAX).count == 2645 * 2645,
-            Deepest::OneSided => judge.one_sided(&file, &[4; 1023], &mut [0; 1025]).count >= 1024,
+            Deepest::OneSided => judge.one_sided(&file, &[4; 1023], &mut vec![0; 1025]).count >= 1024,
         }
     }
 }

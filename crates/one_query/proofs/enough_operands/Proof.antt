@@ -45,26 +45,26 @@ add-u64-at c = search needs
 u64-at-requires : tie.Need-u64-at-requires Inv-loop μ-loop
 u64-at-requires c κs = search needs
 
-mul-member-count : tie.Need-mul-member-count Inv-loop μ-loop
-mul-member-count c = search needs
+mul-member-count-at-once : tie.Need-mul-member-count-at-once Inv-loop μ-loop
+mul-member-count-at-once c = search needs
 
-shared-slice-read-member-count : tie.Need-shared-slice-read-member-count Inv-loop μ-loop
-shared-slice-read-member-count c = search needs
+shared-slice-read-member-count-at-once : tie.Need-shared-slice-read-member-count-at-once Inv-loop μ-loop
+shared-slice-read-member-count-at-once c = search needs
 
-member-count-requires : tie.Need-member-count-requires Inv-loop μ-loop
-member-count-requires c κs = search needs
+member-count-at-once-requires : tie.Need-member-count-at-once-requires Inv-loop μ-loop
+member-count-at-once-requires c κs = search needs
 
 -- one level's part in them
-step : (c : tie.After-member-count Inv-loop μ-loop) →
+step : (c : tie.After-member-count-at-once Inv-loop μ-loop) →
     let start = c .before .before .before .before .before .before .before in
     let k = c .before .before .before .before .loop .k in
-    rest start k ≡ c .member-count .result + rest start (k + 1)
+    rest start k ≡ c .member-count-at-once .result + rest start (k + 1)
 step c =
     let start = c .before .before .before .before .before .before .before in
     let k = c .before .before .before .before .loop .k in
     count-step (now (start .args .file)) (start .args .at) (start .args .d) (now (start .args .xs)) k (c .before .before .before .loop-test .taken) (omega arith)
     (c .before .before .u64-at .result) (c .before .before .u64-at .ensures) (omega arith) (omega (arith, c .before .shared-slice-known3 .given k))
-    ∙ ap (λ (n : ℕ). n + rest start (k + 1)) (sym (c .member-count .ensures))
+    ∙ ap (λ (n : ℕ). n + rest start (k + 1)) (sym (c .member-count-at-once .ensures))
 
 returns : tie.Need-returns Inv-loop μ-loop
 returns c =
@@ -86,7 +86,7 @@ loop-again c =
     let l = c .before .before .before .before .before .loop in (
       omega arith,
       omega (arith, l .inv .1),
-      l .inv .2 ∙ ap (leb (l .need)) (step (c .before)) ∙ still-needed (l .need) (c .before .member-count .result) _,
+      l .inv .2 ∙ ap (leb (l .need)) (step (c .before)) ∙ still-needed (l .need) (c .before .member-count-at-once .result) _,
     )
 
 returns-2 : tie.Need-returns-2 Inv-loop μ-loop
@@ -104,9 +104,9 @@ enough-operands-spec =
     mul-u64-at
     add-u64-at
     u64-at-requires
-    mul-member-count
-    shared-slice-read-member-count
-    member-count-requires
+    mul-member-count-at-once
+    shared-slice-read-member-count-at-once
+    member-count-at-once-requires
     returns
     sub-need
     add-k
