@@ -90,7 +90,7 @@ def lent(file: bytes, a: int, b: Optional[int], u: Sequence[int], v: Sequence[in
 
 def one_sided(file: bytes, v: Sequence[int]) -> Judged:
     room = [0] * (len(v) + 2)
-    return Judged(*_call("judging by the one-sided route", "solver_one_sided", "BBQ", file, v, room)[1:3])
+    return Judged(*_call("judging one-sidedly", "solver_one_sided", "BBQ", file, v, room)[1:3])
 
 
 def page(file: bytes) -> str:

@@ -76,6 +76,8 @@ fn models_of_idle_lines_alone_in_every_operation() {
             let (u, v) = trees(&mut random, &model);
             let leaves = (u.len() as u64 + 1) * (v.len() as u64 + 1);
             assert_eq!(ffi::lent(&file, a, b, &u, &v), Answer::judged(set, leaves), "{u:?} {v:?} {model:?}");
+            let one_sided = ffi::one_sided(&file, &v, &mut vec![9; v.len() + 2]);
+            assert_eq!((one_sided.number, one_sided.set), (0, good), "{v:?} {model:?}");
             let forecast = forecast(&model);
             assert_eq!(ffi::built(&file, a, b, forecast), Answer::judged(set, forecast), "{a} {b} {model:?}");
             assert_eq!(ffi::built(&file, a, b, forecast - 1), Answer::over(forecast), "{a} {b} {model:?}");

@@ -1,5 +1,6 @@
 -- Request W6's promise, from the contracts alone: the judgement of a joined file is the two judgements side by side, wherever all three calls are accepted.
 -- Each call is by plain rounds, by built-in trees, by universal lent trees or by the one-sided route over a universal tree, and they need not be alike.
+-- And the judgement of a file is one set, however it is judged.
 -- Assumes nothing.
 use mathlib.Core.List.{List}
 use mathlib.Core.Path.{_≡_, refl, sym, _∙_, ap, ap₂}
@@ -30,6 +31,9 @@ judged-nested (plainly says ok) = says .nested (none-of _ _ _ (says .answer) ref
 judged-nested (by-built-trees says ok) = says .nested (none-over _ _ _ _ (says .answer) refl ok)
 judged-nested (by-universal-trees says ok least greatest) = says .nested (none-of _ _ _ (says .answer) refl ok) least greatest
 judged-nested (one-sidedly says ok greatest) = says .nested (none-of _ _ _ (says .answer) refl ok) greatest
+
+pub judgings-agree : {file : List ℕ} {set set′ : ℕ} → Judges file set → Judges file set′ → set ≡ set′
+judgings-agree one other = judged-nested one ∙ sym (judged-nested other)
 
 pub side-by-side :
     (first second buffer buffer′ : List ℕ) (w : Written) → JoinSays first second buffer w buffer′ → writtenAnswer w .number ≡ 0
