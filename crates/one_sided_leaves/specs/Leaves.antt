@@ -19,7 +19,7 @@ Starts v before to = (j : ℕ) → j < to → getD before (suc j) 0 ≡ lastOver
 abbrev pub Ends : List ℕ → List ℕ → ℕ → Type 0
 Ends v over from = (j : ℕ) → from ≤ j → j < length v → suc (getD over j 0) ≡ lastLeaf (getD v j 0) v (suc j)
 
--- so do all gaps
+-- every gap has both links
 pub record Linked (v before over : List ℕ) : Type 0 where
   pub few : length v ≤ 1023
   pub starts : Starts v before (length v)
@@ -42,7 +42,7 @@ pub record Entry (xs : List ℕ) (n x : ℕ) : Type 0 where
 abbrev pub Reads : List ℕ → Model → List ℕ → ℕ → ℕ → Type 0
 Reads file m v i y = Entry (variablesIn file m v i) (suc (m .levels)) y
 
--- For each variable, the leaves whose equations have it are those after the first `from` of it, up to `to` of it.
+-- Leaf i + 1 reads the variable y exactly if i is at least `from` of y and below `to` of y.
 pub record Spans (file : List ℕ) (m : Model) (v from to : List ℕ) : Type 0 where
   pub within : (y : ℕ) → y ≤ leaves v → getD to y 0 ≤ leaves v
   pub has : (i y : ℕ) → i < leaves v → Reads file m v i y → (getD from y 0 ≤ i) × (i < getD to y 0)

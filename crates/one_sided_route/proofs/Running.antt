@@ -3,7 +3,7 @@
 use mathlib.Core.Bool.{Bool, true, false, true≢false, cond}
 use mathlib.Core.List.{List, [], _∷_, map}
 use mathlib.Core.Path.{_≡_, refl, sym, _∙_, ap, ap₂, subst}
-use Prim.Native.Nat.{ℕ, zero, suc, _+_, _*_, _-_, _≤_, _<_}
+use Prim.Native.Nat.{ℕ, zero, suc, _+_, _*_, _≤_, _<_}
 use native.Mathlib.Nat.{mul-le-mul}
 use native.Mathlib.Numerals.{add-one}
 use native.Mathlib.Omega.{arith}
@@ -31,7 +31,7 @@ use Rattle.one_sided.proofs.Equations.{generate-count}
 use Rattle.one_sided.proofs.Leaves.{leaf-equation, argument-at, argument-count}
 use Rattle.one_sided_route.specs.Route.{stagedRun}
 use Rattle.one_sided_leaves.specs.Leaves.{argumentsIn, variablesIn, Spans}
-use Rattle.one_sided_stages.specs.Stages.{rightSideAt, Grows, Queued, Carried, Evaluated, Listed, Flagged, Cause, FlaggedFor}
+use Rattle.one_sided_stages.specs.Stages.{rightSideAt, Grows, Queued, Carried, Evaluated, Listed, Flagged, FlaggedFor}
 use Rattle.one_sided_leaves.proofs.Blocks.{argument-within}
 use Rattle.one_sided_route.proofs.Chosen.{chosenCount, chosen-length, chosen-at, count-within, flags-count}
 use Rattle.one_sided_route.proofs.Ahead.{nextBy, Ahead, ahead-first, ahead-more, ahead-settled, ahead-spent}

@@ -1,18 +1,16 @@
 -- What the code of the one-sided route computes on the way. A state stands in a list from the variable 0 on: variable 0, then those of the leaves.
 -- Assumes nothing.
 use mathlib.Core.Bool.{Bool, true, false, cond}
-use mathlib.Core.List.{List, [], _∷_, map}
+use mathlib.Core.List.{List, map}
 use mathlib.Core.Path.{_≡_}
 use Prim.Native.Nat.{ℕ, zero, suc, _+_, _^_, _≤_, _<_}
-use lib.Dec.{eqb}
-use lib.ListN.{length, getD}
+use lib.ListN.{getD}
 use Rattle.sets.specs.Set.{intersection}
 use Rattle.trees.specs.Tree.{leaves}
 use Rattle.system.specs.Query.{query}
 use Rattle.model.specs.declared.layout.Model.{Model}
 use Rattle.model.specs.Held.{systemIn}
-use Rattle.one_sided.specs.Stages.{anyChanged}
-use Rattle.one_sided_leaves.specs.Leaves.{argumentsIn, variablesIn, Entry}
+use Rattle.one_sided_leaves.specs.Leaves.{argumentsIn, Entry}
 
 -- the values of some variables
 abbrev pub readings : List ℕ → List ℕ → List ℕ
@@ -30,10 +28,6 @@ rightSideAt file m v state i = boundedQuery file m state i (argumentsIn file m v
 abbrev pub Grows : List ℕ → Model → List ℕ → List ℕ → Type 0
 Grows file m v state =
     (i : ℕ) → i < leaves v → (getD state i 0 < 2 ^ m .lines) × (intersection (getD state (i + 1) 0) (rightSideAt file m v state i) ≡ getD state (i + 1) 0)
-
--- whether a variable of the equation of leaf i + 1 has another value in the words than in the state
-abbrev pub dueAfter : List ℕ → Model → List ℕ → List ℕ → List ℕ → ℕ → Bool
-dueAfter file m v state words i = anyChanged eqb (λ y. getD state y 0) (λ y. getD words y 0) (variablesIn file m v i)
 
 -- how many of the first w flags are set
 unfoldable pub flagCount : List Bool → ℕ → ℕ

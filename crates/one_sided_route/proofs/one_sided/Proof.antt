@@ -3,13 +3,13 @@
 -- Assumes nothing.
 use mathlib.Core.Bool.{false}
 use mathlib.Core.Logic.{⊎-elim}
-use mathlib.Core.Path.{_≡_, refl, sym, _∙_, ap}
+use mathlib.Core.Path.{_≡_, refl, _∙_, ap}
 use Prim.Native.Nat.{suc, _+_, _*_, _-_, _≤_}
 use native.Mathlib.Omega.{arith}
 use borrow.Author.Needs.{needs}
 use denote.Ref.{now}
 use native.Mathlib.Nat.{mul-le-mul, min-eq-left}
-use lib.ListN.{length, set, drop, replicate, length-set, length-replicate, getD-replicate}
+use lib.ListN.{length, replicate, length-set, getD-replicate}
 use lib.Seq.{drop-set-lt}
 use Rattle.sets.specs.Set.{full}
 use Rattle.trees.specs.Tree.{leaves}
