@@ -80,27 +80,6 @@ fn line_value(file: &[u8], kind: u8, t: u8, at: usize, d: usize, xs: &[u64]) -> 
     }
 }
 
-// The query's set for a file of these counts, at the arguments in the first places of xs.
-pub fn evaluate(file: &[u8], m: Model, xs: &[u64]) -> u64
-    requires { ⌜ Held (now file) m ⌝ }
-    requires { ⌜ m .levels ≤ length (now xs) ⌝ }
-    ensures { λ r. ⌜ r ≡ spec.query (systemIn (now (file .entry)) m) (take (m .levels) (now (xs .entry))) ⌝ }
-{
-    let n = m.lines;
-    let d = m.levels;
-    let mut at = words_in(file);
-    let mut set: u64 = 0;
-    let mut i = 0;
-    while i < n {
-        if line_value(file, kind(file, m, i), threshold(file, m, i), at, d, xs) {
-            set = set | (1u64 << i);
-        }
-        at += 8 * d;
-        i += 1;
-    }
-    set
-}
-
 // Those of some lines that are in the query's set: no other line is worked out. They are gone over from the lowest on.
 pub fn evaluate_lines(file: &[u8], m: Model, xs: &[u64], lines: u64) -> u64
     requires { ⌜ Held (now file) m ⌝ }
@@ -129,4 +108,13 @@ pub fn evaluate_lines(file: &[u8], m: Model, xs: &[u64], lines: u64) -> u64
         rest = others;
     }
     found
+}
+
+// The query's set for a file of these counts, at the arguments in the first places of xs.
+pub fn evaluate(file: &[u8], m: Model, xs: &[u64]) -> u64
+    requires { ⌜ Held (now file) m ⌝ }
+    requires { ⌜ m .levels ≤ length (now xs) ⌝ }
+    ensures { λ r. ⌜ r ≡ spec.query (systemIn (now (file .entry)) m) (take (m .levels) (now (xs .entry))) ⌝ }
+{
+    evaluate_lines(file, m, xs, sets::full_set(m.lines))
 }

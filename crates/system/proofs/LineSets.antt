@@ -1,4 +1,4 @@
--- Sets that are made line by line: with one line more, who is in them, and their digits from a line on.
+-- Sets that are made line by line: who is in them, and their digits from a line on.
 -- Assumes nothing.
 use mathlib.Core.Bool.{Bool, true, false, cond, _&&_, _||_, and-true, and-false, or-false}
 use mathlib.Core.Path.{_≡_, refl, sym, _∙_, ap}
@@ -7,22 +7,12 @@ use native.Mathlib.Nat.{div-eq-of-lt, lt-of-le-of-lt, lt-of-lt-of-le}
 use native.Mathlib.Numerals.{add-one}
 use native.Mathlib.Omega.{arith}
 use borrow.Author.Tests.{lt-ltb, le-ltb, eqb-true, eqb-false, ltb-true, ltb-false}
-use lib.Bits.{or-zero-r}
 use lib.Dec.{eqb, ltb}
 use lib.Pow.{pow-mono, shr-shr, shr-le}
-use Rattle.sets.specs.Set.{isMember, union}
+use Rattle.sets.specs.Set.{isMember}
 use Rattle.sets.proofs.Membership.{member-join, member-power, member-empty, member-digit}
 use Rattle.system.specs.Query.{setOf}
 use Rattle.system.proofs.Monotone.{set-below}
-
--- the set of the lines passed, with one line more
-pub set-more : (p : ℕ → Bool) (i : ℕ) → p i ≡ true → union (setOf i p) (2 ^ i) ≡ setOf (i + 1) p
-unfolding setOf
-set-more p i e = rw (add-one i, e)
-
-pub set-same : (p : ℕ → Bool) (i : ℕ) → p i ≡ false → setOf i p ≡ setOf (i + 1) p
-unfolding setOf
-set-same p i e = rw (add-one i, e, or-zero-r)
 
 -- the set goes by the values of its lines
 pub set-same-values : (n : ℕ) (p q : ℕ → Bool) → ((i : ℕ) → i < n → p i ≡ q i) → setOf n p ≡ setOf n q

@@ -4,30 +4,30 @@ use super::{answer, answer_under, full_set, u64_at, Found, Lent, Model, ALL, VOT
 use crate::Answer;
 
 impl Model<'_> {
-    /// One query: each line by its operands, up to the first word that decides it.
+    /// A line's value by its operands, up to the first word that decides it.
+    fn line_value(record: &[u8], line: &[u8], xs: &[u64; 8]) -> bool {
+        let mut pairs = line.chunks_exact(8).map(|bytes| u64_at(bytes, 0)).zip(xs);
+        match record[0] {
+            VOTE => {
+                let mut needed = record[1] as u32;
+                pairs.any(|(word, x)| {
+                    let hits = (word & x).count_ones();
+                    let reached = hits >= needed;
+                    needed = needed.saturating_sub(hits);
+                    reached
+                })
+            }
+            ALL => pairs.all(|(word, x)| word & !x == 0),
+            _ => pairs.any(|(word, x)| word & x != 0),
+        }
+    }
+
+    /// One query, line by line.
     fn query(self, xs: &[u64; 8]) -> u64 {
         let records = self.file[self.kinds_at()..self.words_at()].chunks_exact(self.record);
         let lines = self.file[self.words_at()..].chunks_exact(8 * self.levels);
-        let mut set = 0;
-        for (i, (record, line)) in records.zip(lines).enumerate() {
-            let words = line.chunks_exact(8).map(|bytes| u64_at(bytes, 0));
-            let mut pairs = words.zip(xs);
-            let value = match record[0] {
-                VOTE => {
-                    let mut needed = record[1] as u32;
-                    pairs.any(|(word, x)| {
-                        let hits = (word & x).count_ones();
-                        let reached = hits >= needed;
-                        needed = needed.saturating_sub(hits);
-                        reached
-                    })
-                }
-                ALL => pairs.all(|(word, x)| word & !x == 0),
-                _ => pairs.any(|(word, x)| word & x != 0),
-            };
-            set |= (value as u64) << i;
-        }
-        set
+        let values = records.zip(lines).map(|(record, line)| Self::line_value(record, line, xs));
+        values.enumerate().fold(0, |set, (i, value)| set | (value as u64) << i)
     }
 
     /// The same for some lines alone, the lowest first.
@@ -41,21 +41,7 @@ impl Model<'_> {
             let others = rest & (rest - 1);
             let record = &records[i * self.record..][..self.record];
             let line = &words[i * 8 * self.levels..][..8 * self.levels];
-            let mut pairs = line.chunks_exact(8).map(|bytes| u64_at(bytes, 0)).zip(xs);
-            let value = match record[0] {
-                VOTE => {
-                    let mut needed = record[1] as u32;
-                    pairs.any(|(word, x)| {
-                        let hits = (word & x).count_ones();
-                        let reached = hits >= needed;
-                        needed = needed.saturating_sub(hits);
-                        reached
-                    })
-                }
-                ALL => pairs.all(|(word, x)| word & !x == 0),
-                _ => pairs.any(|(word, x)| word & x != 0),
-            };
-            if value {
+            if Self::line_value(record, line, xs) {
                 set |= rest ^ others;
             }
             rest = others;
