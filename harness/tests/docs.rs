@@ -106,8 +106,8 @@ fn damages() -> Vec<Damage> {
         // The stored run, a figure, and what the doc quotes.
         damage(
             "docs/benchmark/run.txt",
-            "built     8      4 sparse",
-            "built     9      4 sparse",
+            "built         8      4 sparse",
+            "built         9      4 sparse",
             "docs/benchmark/time-by-lines.svg:0: is not what harness/figures.py draws",
         ),
         damage(

@@ -110,7 +110,7 @@ fn the_manual_names_the_refusals_of_each_operation() {
         assert_eq!(named, expected, "{name}");
         seen += 1;
     }
-    assert_eq!(seen, 8);
+    assert_eq!(seen, 9);
 }
 
 // ---- refusals ----
