@@ -74,8 +74,6 @@ def line(x1, y1, x2, y2, colour=GRID, width=1, dashes=""):
 
 
 def mark(kind, x, y, colour, opacity=1):
-    if not kind:
-        return ""
     paint = f'fill="{colour}" fill-opacity="{opacity}"'
     if kind == "circle":
         return f'<circle cx="{x:.1f}" cy="{y:.1f}" r="4" {paint}/>'
@@ -108,7 +106,8 @@ def time_words(seconds):
 def legend(series, y):
     x, parts = 24, []
     for words, colour, dashes, kind in series.values():
-        parts += [line(x, y, x + 32, y, colour, 2, dashes), mark(kind, x + 16, y, colour)]
+        parts.append(line(x, y, x + 32, y, colour, 2, dashes))
+        parts += [mark(kind, x + 16, y, colour)] if kind else []
         parts.append(text(x + 40, y + 4, words, "start"))
         x += 70 + 7 * len(words)
     return parts
@@ -145,7 +144,7 @@ def panels(title, upwards, words_of, panels, series, axis, steps, place):
             parts.append(
                 f'<polyline points="{path}" fill="none" stroke="{colour}" stroke-width="2" stroke-dasharray="{dashes}"/>'
             )
-            parts += [mark(kind, a, b, colour) for a, b in points]
+            parts += [mark(kind, a, b, colour) for a, b in points if kind]
     return picture(width, height, title, parts)
 
 
