@@ -1,9 +1,10 @@
 // What the operations answer: the reasons for a refusal, with document 01's number for each.
+#![tactic(auto)]
 ghost use Rattle.std.specs.Prelude.{◌≡◌};
 ghost use Rattle.answers.specs.Answer.{number_of};
 
 // Why an operation refuses. In document 01 each is a number, which `number_of` in specs/ gives. Its 8, a line without operands, is retired (request W2).
-#[derive(Drop)]
+#[derive(Clone, Copy)]
 pub enum Refusal {
     // Under 16 bytes.
     HeaderShort,

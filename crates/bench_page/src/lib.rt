@@ -1,4 +1,5 @@
 // Making the bench page: a file's judgement as a page of text, in a lent buffer. Definitions: specs/.
+#![tactic(auto)]
 ghost use Rattle.bench_page.specs.Says.{PageSays};
 
 use answers::Refusal;
@@ -6,7 +7,7 @@ use model::Reading;
 use solver::{Judged, PROGRAM_CEILING};
 
 // What making the page answers.
-#[derive(Drop)]
+#[derive(Clone, Copy)]
 pub enum Paged {
     Length(usize),
     // Refused with 10 and this count, the forecast of judging (request W8).

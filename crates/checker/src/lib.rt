@@ -1,4 +1,5 @@
 // Checking a file: document 01's refusals 1 to 7, and 14 (request W4). Definitions: specs/.
+#![tactic(auto)]
 ghost use Rattle.std.specs.Prelude.{false, ◌≡◌, ◌+◌, ◌*◌, ◌≤◌, ◌<◌, ltb, length, drop};
 ghost use Rattle.answers.specs.Check.{first_of, unless};
 ghost use Rattle.system.specs.Query.{operand_count};
@@ -14,7 +15,7 @@ use model::{Model, Reading, is_old, kind, misfits, one_over, threshold, words_in
 use numbers::{u16_at, u32_at, u64_at};
 
 // What is wrong with the lines of a file.
-#[derive(Drop)]
+#[derive(Clone, Copy)]
 struct LineFaults {
     kind: bool,
     threshold: bool,

@@ -1,4 +1,5 @@
 // The file of a system, put into a lent buffer.
+#![tactic(auto)]
 ghost use Rattle.std.specs.Prelude.{◌≡◌, ◌++◌, ◌*◌, ◌≤◌, length, drop};
 ghost use Rattle.system.specs.System.{system_of};
 ghost use Rattle.model.specs.File.{file_length, header_bytes, line_records, encode};
@@ -53,7 +54,7 @@ pub fn put_file(
     let kinds_at = m.kinds_at();
     let words_at = m.words_at();
     put_header(buffer, m);
-    bytes::copy(signs, &mut buffer[signs_at..]);
+    buffer[signs_at..kinds_at].copy_from_slice(signs);
     put_lines(&mut buffer[kinds_at..], kinds, thresholds);
     put_words(&mut buffer[words_at..], words);
 }

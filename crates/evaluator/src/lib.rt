@@ -1,6 +1,7 @@
 // The set of a query, level by level from the outermost inwards: what the arguments known so far decide is carried on, so that each argument is
 // looked at once, and by those lines alone that are still undecided. Beside it stands what each line that is not set still needs: one operand that is
 // set or, for a vote, several. A level below gets it as it is, unless some votes need less by then: only these are counted. Definitions: specs/.
+#![tactic(auto)]
 ghost use Rattle.std.specs.Prelude.{◌≡◌, ◌&&◌, List, [], ◌∷◌, ℕ, suc, ◌+◌, ◌*◌, ◌<◌, ◌^◌, ltb};
 ghost use Rattle.sets.specs.Set.{is_member, members, bounded_step};
 ghost use Rattle.system.specs.Query.{query};
@@ -12,7 +13,7 @@ use model::{Model, is_old, kind, line_bytes, threshold, words_in};
 use numbers::u64_at;
 
 // What the arguments of the outer levels decide.
-#[derive(Drop)]
+#[derive(Clone, Copy)]
 pub struct Pending {
     // The query's set, if the levels below decide nothing more: an undecided line has the value that it has without operands.
     pub set: u64,
@@ -20,7 +21,7 @@ pub struct Pending {
 }
 
 // What one argument more decides.
-#[derive(Drop)]
+#[derive(Clone, Copy)]
 pub struct Decision {
     pub pending: Pending,
     // The undecided lines that need less than before it, and still something: votes.
@@ -28,7 +29,7 @@ pub struct Decision {
 }
 
 // Of some lines, those that have all that they need, and those that have a part of it.
-#[derive(Drop)]
+#[derive(Clone, Copy)]
 struct Hits {
     met: u64,
     lowered: u64,

@@ -1,6 +1,7 @@
 // The join program: joins the models of the two files that its arguments name, and writes the joined file to standard output. Where they are refused
 // it writes two lines to standard error: the refusal, and which file it is about, or in what the two do not go together.
 // Joining is `joiner`'s, which is proved; here files are only read, handed over and written.
+#![tactic(auto)]
 ghost use Rattle.streams.specs.Input.{InputSays};
 
 use libc::STDERR_FILENO;

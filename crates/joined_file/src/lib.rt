@@ -1,4 +1,5 @@
 // The file of two models joined in one (request W6), put into a lent buffer straight from their files, which may be old or new. Definitions: specs/.
+#![tactic(auto)]
 ghost use Rattle.std.specs.Prelude.{◌≡◌, ◌++◌, map, ◌+◌, ◌*◌, ◌^◌, ◌≤◌, ◌<◌, length, drop};
 ghost use Rattle.lists.specs.Below.{AllBelow};
 ghost use Rattle.sets.specs.SideBySide.{moved_up};
@@ -83,7 +84,7 @@ pub fn put_joined(first: &[u8], m: Model, second: &[u8], k: Model, buffer: &mut 
     let kinds_at = both.kinds_at();
     let words_at = both.words_at();
     put_header(buffer, both);
-    bytes::copy(&first[signs_at..kinds_at], &mut buffer[signs_at..]);
+    buffer[signs_at..kinds_at].copy_from_slice(&first[signs_at..kinds_at]);
     put_both_lines(&mut buffer[kinds_at..], first, m, second, k);
     put_both_words(&mut buffer[words_at..], first, m, second, k);
 }

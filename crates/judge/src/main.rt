@@ -1,5 +1,6 @@
 // The judging program: reads a model's file from standard input and writes its judgement, or its refusal, to standard output.
 // Making the text is `report`'s, which is proved; here it is only read, called and written.
+#![tactic(auto)]
 use libc::STDIN_FILENO;
 use model::Model;
 use streams::Input;

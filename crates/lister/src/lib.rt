@@ -1,5 +1,6 @@
 // The trees of a height and a number of leaves, one after another in dictionary order, and listed in a lent buffer (request W10). Definitions: specs/, and
 // crates/listing/specs.
+#![tactic(auto)]
 ghost use Rattle.std.specs.Prelude.{◌++◌, ◌≡◌, ℕ, suc, ◌*◌, ◌^◌, ◌≤◌, ◌<◌, length, take, drop};
 ghost use Rattle.listing.specs.Listed.{listed_bytes};
 ghost use Rattle.listing.specs.Digits.{digit_gaps};
@@ -13,7 +14,7 @@ pub const MAX_HEIGHT: usize = 4;
 pub const MAX_LEAVES: usize = 8;
 
 // What listing answers.
-#[derive(Drop)]
+#[derive(Clone, Copy)]
 pub enum Listed {
     Trees { count: u64, bytes: usize },
     Refused(Refusal),

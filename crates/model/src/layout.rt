@@ -8,14 +8,14 @@ ghost use Rattle.model.specs.Says.{reading_answer, sized};
 use answers::Refusal;
 
 // A model's two counts. Its file is lent beside them.
-#[derive(Drop)]
+#[derive(Clone, Copy)]
 pub struct Model {
     pub lines: usize,
     pub levels: usize,
 }
 
 // What checking and reading answer.
-#[derive(Drop)]
+#[derive(Clone, Copy)]
 pub enum Reading {
     Accepted(Model),
     Refused(Refusal),

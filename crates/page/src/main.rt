@@ -1,5 +1,6 @@
 // The page program: reads a model's file from standard input and writes its bench page, or its refusal, to standard output.
 // Making the text is `page_report`'s, which is proved; here it is only read, called and written.
+#![tactic(auto)]
 use libc::STDIN_FILENO;
 use model::Model;
 use streams::Input;

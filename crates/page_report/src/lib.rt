@@ -1,4 +1,5 @@
 // The page program's text for an input. Definitions: specs/.
+#![tactic(auto)]
 ghost use Rattle.text.specs.Text.{Puts};
 ghost use Rattle.page_report.specs.Report.{made_text};
 

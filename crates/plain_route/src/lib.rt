@@ -1,4 +1,5 @@
 // The plain route: rounds of each level from its own start, under a ceiling on the queries. Definitions: specs/.
+#![tactic(auto)]
 ghost use Rattle.std.specs.Prelude.{◌≡◌, cond, List, ℕ, ◌<◌, ◌≤◌, ◌^◌};
 ghost use Rattle.system.specs.System.{sign};
 ghost use Rattle.model.specs.Held.{Held, system_in};
@@ -10,7 +11,7 @@ use evaluator::{Pending, decide, lower_needs, settle};
 use model::{Model, is_greatest};
 
 // How a run under a ceiling ends.
-#[derive(Drop)]
+#[derive(Clone, Copy)]
 pub enum Outcome {
     // With this set, and so much of the ceiling left.
     Settled { set: u64, left: u64 },

@@ -1,4 +1,5 @@
 // Reading a file into lent slices. Definitions: specs/.
+#![tactic(auto)]
 ghost use Rattle.std.specs.Prelude.{◌≡◌, ◌≤◌, length};
 ghost use Rattle.model.specs.Held.{LaidOut, system_in};
 ghost use Rattle.model.specs.Says.{filled};
@@ -57,7 +58,7 @@ pub fn read(
     let signs_at = Model::SIGNS_AT;
     let kinds_at = m.kinds_at();
     let words_at = words_in(file);
-    bytes::copy(&file[signs_at..kinds_at], signs);
+    signs[..d].copy_from_slice(&file[signs_at..kinds_at]);
     read_lines(file, m, kinds, thresholds);
     read_words(&file[words_at..], n * d, words);
     counts

@@ -1,4 +1,5 @@
 // What the routes share, and the innermost level of both tree routes. Definitions, of every route: specs/.
+#![tactic(auto)]
 mod innermost;
 mod shared;
 

@@ -6,7 +6,7 @@ ghost use Rattle.routes.specs.Routes.{least_levels};
 use model::{Model, is_greatest};
 
 // A set, and the queries made on the way to it.
-#[derive(Drop)]
+#[derive(Clone, Copy)]
 pub struct Found {
     pub set: u64,
     pub count: u64,

@@ -1,5 +1,6 @@
 // Runs those of document 01's samples that are not proved; the others are the table of the crate `samples`.
 // Its stored output is what document 01 says of them, what requests W3, W4 and W8 say of the shares, the votes and the forecast, and P's bench page.
+#![tactic(auto)]
 use answers::Refusal;
 use libc::STDOUT_FILENO;
 use model::{Model, Reading};

@@ -1,5 +1,6 @@
 // The public operations on a model in use: one query, and each of the three judgings. Each takes all inputs, ends, and answers a set,
 // judging with a count, or one refusal by document 01's order. Definitions: specs/.
+#![tactic(auto)]
 ghost use Rattle.std.specs.Prelude.{◌≡◌};
 ghost use Rattle.solver.specs.Says.{queried_answer, query_answer, handed_on, PlainSays, BuiltSays, LentSays};
 
@@ -12,7 +13,7 @@ use plain_route::Outcome;
 pub const PROGRAM_CEILING: u64 = 1_000_000;
 
 // What one query answers.
-#[derive(Drop)]
+#[derive(Clone, Copy)]
 pub enum Queried {
     Set(u64),
     Refused(Refusal),
@@ -37,7 +38,7 @@ pub fn query(file: &[u8], xs: &[u64]) -> Queried
 }
 
 // What judging answers.
-#[derive(Drop)]
+#[derive(Clone, Copy)]
 pub enum Judged {
     Found { set: u64, count: u64 },
     // Refused with 10 and this count, the forecast: nothing was judged (request W8).

@@ -1,11 +1,12 @@
 // What the programs share: an input is read whole and an output written whole, or standard error is told which could not be, and why.
 // The programs have no exit status, so this is how whoever runs them learns of it. What is read and written is tested; no contract can say it.
+#![tactic(auto)]
 ghost use Rattle.streams.specs.Input.{InputSays};
 
 use libc::{STDERR_FILENO, STDOUT_FILENO};
 
 // What came of reading an input.
-#[derive(Drop)]
+#[derive(Clone, Copy)]
 pub enum Input {
     // So many bytes stand at the front of the buffer: all of the input, or as much of it as fits.
     Bytes(usize),

@@ -1,4 +1,5 @@
 // Texts and numbers as text, put into a lent buffer. Definitions: specs/.
+#![tactic(auto)]
 ghost use Rattle.std.specs.Prelude.{◌≡◌, ◌+◌, ◌≤◌, ◌<◌, length};
 ghost use Rattle.text.specs.Text.{digit, digits, places, hex, decimal, number_line, refused_line, Puts};
 
@@ -7,7 +8,9 @@ pub fn put(out: &mut [u8], at: usize, text: &[u8]) -> usize
     requires { at + length text.now ≤ length out.old }
     ensures { Puts at text.now out.old out.new result }
 {
-    at + bytes::copy(text, &mut out[at..])
+    let end = at + text.len();
+    out[at..end].copy_from_slice(text);
+    end
 }
 
 // A digit in ASCII.

@@ -1,4 +1,5 @@
 // Writing a model's file into a lent buffer. Definitions: specs/.
+#![tactic(auto)]
 ghost use Rattle.std.specs.Prelude.{◌≡◌, [], ◌*◌, ◌≤◌, length};
 ghost use Rattle.system.specs.System.{system_of};
 ghost use Rattle.system.specs.Query.{operand_count};
@@ -10,7 +11,7 @@ use encoder::put_file;
 use model::{Model, Reading, misfits, one_over, one_strays};
 
 // What writing answers, and joining two files, which writes one too.
-#[derive(Drop)]
+#[derive(Clone, Copy)]
 pub enum Written {
     Length(usize),
     Refused(Refusal),
