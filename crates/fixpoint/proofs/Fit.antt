@@ -26,17 +26,17 @@ module _ (𝓥 : Values) (𝓛 : Lawful 𝓥) where
     unfolding rise
     rise_fit v {a} {a'} {b} r r' e (done {us}) = trans⊑ e (rise_between 𝓥 𝓛 p P v us r').above
     rise_fit v {a} {a'} {b} r r' e (here {t} {u} q s) =
-        rise_fit v (range_up 𝓥 𝓛 r (P.at a t v r)) (range_up 𝓥 𝓛 r' (P.at a' u v r'))
+        rise_fit v {a = p a a b t v} {a' = p a' a' b u v} {b = b} (range_up 𝓥 𝓛 r (P.at a t v r)) (range_up 𝓥 𝓛 r' (P.at a' u v r'))
         (trans⊑ (M.at t v r r' e e (refl⊑ b)) (fit a' a' b t u v r' q)) s
     rise_fit v {a} {a'} {b} r r' e (skip {u} s) =
         let w : Between 𝓥 a' (p a' a' b u v) b = P.at a' u v r' in
-        rise_fit v r (range_up 𝓥 𝓛 r' w) (trans⊑ e w.above) s
+        rise_fit v {a = a} {a' = p a' a' b u v} {b = b} r (range_up 𝓥 𝓛 r' w) (trans⊑ e w.above) s
 
     fall_fit : {a b b' : C} (t u : List ℕ) (vs : List (List ℕ)) → Range 𝓥 a b → Range 𝓥 a b' → b ⊑ b' → FitsIn h t u → fall p a t b vs ⊑ fall p a u b' vs
     unfolding fall
     fall_fit t u [] r r' e q = e
-    fall_fit {a} {b} {b'} t u (v ∷ vs) r r' e q =
-        fall_fit t u vs (range_down 𝓥 𝓛 r (P.at b t v r)) (range_down 𝓥 𝓛 r' (P.at b' u v r'))
+    fall_fit {a = a} {b = b} {b' = b'} t u (v ∷ vs) r r' e q =
+        fall_fit {a = a} {b = p b a b t v} {b' = p b' a b' u v} t u vs (range_down 𝓥 𝓛 r (P.at b t v r)) (range_down 𝓥 𝓛 r' (P.at b' u v r'))
         (trans⊑ (M.at t v r r' e (refl⊑ a) e) (fit b' a b' t u v r' q)) q
 
   module _ (sign : ℕ → Bool) (f : List C → C) (f-mono : MonotoneQuery 𝓥 f) where

@@ -45,15 +45,15 @@ module _ (𝓥 : Values) (𝓛 : Lawful 𝓥) where
     rise_between v {a} {b} [] r = record { above = refl⊑ a; below = r.mid }
     rise_between v {a} {b} (u ∷ us) r =
         let w : Between 𝓥 a (p a a b u v) b = P.at a u v r in
-        let z : Between 𝓥 (p a a b u v) (rise p b v (p a a b u v) us) b = rise_between v us (range_up 𝓥 𝓛 r w) in
+        let z : Between 𝓥 (p a a b u v) (rise p b v (p a a b u v) us) b = rise_between v {a = p a a b u v} {b = b} us (range_up 𝓥 𝓛 r w) in
         record { above = trans⊑ w.above z.above; below = z.below }
 
     module _ (q : C → C → C → List ℕ → List ℕ → C) (Q : Keeps 𝓥 q) (M : Under 𝓥 p q) where
       pub rise_mono : {a a' b b' : C} (v : List ℕ) (us : List (List ℕ)) → Range 𝓥 a b → Range 𝓥 a' b' → a ⊑ a' → b ⊑ b' → rise p b v a us ⊑ rise q b' v a' us
       unfolding rise
       rise_mono v [] r r' ha hb = ha
-      rise_mono {a} {a'} v (u ∷ us) r r' ha hb =
-          rise_mono v us (range_up 𝓥 𝓛 r (P.at a u v r)) (range_up 𝓥 𝓛 r' (Q.at a' u v r')) (M.at u v r r' ha ha hb) hb
+      rise_mono {a = a} {a' = a'} {b = b} {b' = b'} v (u ∷ us) r r' ha hb =
+          rise_mono {a = p a a b u v} {a' = q a' a' b' u v} {b = b} {b' = b'} v us (range_up 𝓥 𝓛 r (P.at a u v r)) (range_up 𝓥 𝓛 r' (Q.at a' u v r')) (M.at u v r r' ha ha hb) hb
 
 turn_keeps : (𝓥 : Values) (p : 𝓥.C → 𝓥.C → 𝓥.C → List ℕ → List ℕ → 𝓥.C) → Keeps 𝓥 p → Keeps (dual 𝓥) (turn p)
 turn_keeps 𝓥 p P = record { at = λ x v u r. dual_between 𝓥 (P.at x u v (range_dual 𝓥 r)) }

@@ -33,6 +33,7 @@ widen_children h k (g ∷ t) = go (eqb g h) (children_some h t) (widen_children 
 
 placed_front : {R : List ℕ → List ℕ → Type 0} (us ts ss : List (List ℕ)) → Placed R (ts ++ ss) us → Placed R ts us
 placed_front [] [] ss p = done
+placed_front {R = R} [] (t ∷ ts) ss p = elim p [ ]
 placed_front (u ∷ us) [] ss p = done
 placed_front (u ∷ us) (t ∷ ts) ss (here r p) = here r (placed_front us ts ss p)
 placed_front (u ∷ us) (t ∷ ts) ss (skip p) = skip (placed_front us (t ∷ ts) ss p)

@@ -1,0 +1,55 @@
+use mathlib.Core.Logic.{⊎_elim}
+use mathlib.Core.Path.{sym, ◌∙◌}
+use Prim.Native.Nat.{◌<◌}
+use native.Mathlib.Omega.{arith}
+use Rattle.system.specs.System.{sign}
+use Rattle.model.specs.Held.{system_in}
+use Rattle.one_sided_leaves.proofs.Blocks.{height_within, nested_none, nested_greatest, nested_least, nested_as, nested_end}
+use Rattle.one_sided_leaves.proofs.arguments.find_arguments.Goals as goal
+
+pub loop-k-init : goal.loop-k-init
+loop-k-init c =
+    nested_none (sign (system_in c.args.file.now c.args.m)) c.args.v.now c.args.i c.args.m.levels c.args.args.now c.requires.args_len c.requires.held.1
+
+pub block_start-start-requires : goal.block_start-start-requires
+block_start-start-requires c =
+    let l = c.loop-k in
+    let p = c.requires.held.2 in
+    (l.invariant.start_within, p.few, (λ j h. p.starts j (omega (arith, l.invariant.start_within))))
+
+pub overflow_add-height : goal.overflow_add-height
+overflow_add-height c =
+    let l = c.loop-k in
+    omega (arith, l.invariant.high, l.invariant.within, c.requires.held.0.laid_out.few_levels, height_within (sign (system_in c.args.file.now c.args.m)) l.k)
+
+pub block_end-end-requires : goal.block_end-end-requires
+block_end-end-requires c =
+    let l = c.loop-k in
+    let p = c.requires.held.2 in
+    (l.invariant.last_within, p.few, (λ j h q. p.ends j (omega arith) q))
+
+pub loop-k-preserved : goal.loop-k-preserved
+loop-k-preserved c =
+    let l = c.loop-k in
+    let signs = sign (system_in c.args.file.now c.args.m) in
+    let v = c.args.v.now in
+    let i = c.args.i in
+    let d = c.args.m.levels in
+    let inside : l.k < d = c.loop-k-test.true in
+    let few = c.requires.held.0.laid_out.few_levels in
+    ⊎_elim
+    (λ w. nested_as signs v i d
+    (nested_greatest signs v i d l.invariant inside few w.1.result w.1.ensures (sym c.is_greatest.ensures ∙ w.0.taken))
+    w.2 w.3 w.4 w.5)
+    (λ w. nested_as signs v i d
+    (nested_least signs v i d l.invariant inside few w.1.result w.1.ensures (sym c.is_greatest.ensures ∙ w.0.left))
+    w.2 w.3 w.4 w.5)
+    c.if-is_greatest.branch
+
+pub returns : goal.returns
+returns c =
+    let l = c.loop-k in record {
+      args_len_2 = l.invariant.long;
+      args_after = nested_end (sign (system_in c.args.file.now c.args.m)) c.args.v.now c.args.i c.args.m.levels l.invariant c.requires.held.0.laid_out.few_levels c.loop-k-test.false;
+    }
+

@@ -1,0 +1,17 @@
+-- `routes::innermost::innermost_greatest` meets its contract. The loop's invariant: the value is that of the leaves passed. The measure is the leaves left.
+-- Assumes nothing.
+use mathlib.Core.List.{List, []}
+use Prim.Native.Nat.{ℕ, ◌-◌, ◌≤◌}
+use lib.ListN.{replicate}
+use Rattle.evaluator.specs.ByLevels.{Carried}
+use Rattle.model.specs.Held.{system_in}
+use Rattle.routes.proofs.Levels.{GreatestGives}
+use Rattle.routes.proofs.InnermostLevels.{after_leaves}
+use Rattle.routes.proofs.innermost.innermost_greatest.Given as goal
+
+abbrev pub invariant-loop-i : goal.invariant-loop-i
+invariant-loop-i l =
+    (l.i ≤ l.leaves) × ((u ys : List ℕ) → Carried (system_in l.file l.m) 1 ys l.a l.b l.w l.needs → GreatestGives (system_in l.file l.m) 0 ys l.a l.b u (replicate l.i []) (after_leaves l.high l.i))
+
+abbrev pub decreases-loop-i : goal.decreases-loop-i
+decreases-loop-i l = l.leaves - l.i

@@ -1,0 +1,13 @@
+-- `solver_c::solver_join` meets its contract: the words and the buffer are as the operation left them.
+-- Assumes nothing.
+use mathlib.Core.Path.{ap, ◌∙◌}
+use Rattle.answer_c.specs.Words.{six_words}
+use Rattle.solver_c.proofs.solver_join.Goals as goal
+
+pub returns : goal.returns
+returns c =
+    let made = c.join.ensures in record {
+      answer_after = c.put_written.ensures ∙ ap six_words made.answer;
+      join_leaves = made.left;
+    }
+

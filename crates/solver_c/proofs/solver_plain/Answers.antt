@@ -1,0 +1,9 @@
+-- `solver_c::solver_plain` meets its contract: the words are those of the operation's answer.
+-- Assumes nothing.
+use mathlib.Core.Path.{ap, ◌∙◌}
+use Rattle.answer_c.specs.Words.{six_words}
+use Rattle.solver_c.proofs.solver_plain.Goals as goal
+
+pub returns : goal.returns
+returns c = c.put_judged.ensures ∙ ap six_words c.solve_plain.ensures.answer
+
