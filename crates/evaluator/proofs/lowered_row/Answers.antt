@@ -13,7 +13,7 @@ use Rattle.system.specs.Query.{count_set}
 use Rattle.sets.proofs.PassedLines.{others_fewer, passed_none, passed_all, unpassed, passed_more}
 use Rattle.evaluator.proofs.LookedLines.{masked, count_masked, Looked, looked, in_lines}
 use Rattle.evaluator.proofs.lowered_row.Goals as goal
-use Rattle.evaluator.proofs.lowered_row.Goals.{After-member_count-count, In-loop-rest, Joined-count-need}
+use Rattle.evaluator.proofs.lowered_row.Goals.{After-member_count-count, In-loop-rest, Joined-count-need, then-count-need, else-count-need}
 
 pub level_words-at-requires : goal.level_words-at-requires
 level_words-at-requires c = record {
@@ -22,7 +22,7 @@ level_words-at-requires c = record {
     }
 
 pub loop-rest-init : goal.loop-rest-init
-loop-rest-init c = record { long = c.well-formed.1.1.1.1.1.0.1.0.1; passed = passed_none _ _ _ (λ i. refl) }
+loop-rest-init c = record { long = c.well_formed.1.1.1.1.1.0.1.0.1; passed = passed_none _ _ _ (λ i. refl) }
 
 -- the line that is looked at
 at_line : (c : In-loop-rest) →
@@ -36,10 +36,10 @@ pub overflow_cast-i : goal.overflow_cast-i
 overflow_cast-i c = omega (arith, (at_line (goal.at.overflow_cast-i c).In-loop-rest).low.low)
 
 pub overflow_mul-line-in-loop-rest : goal.overflow_mul-line-in-loop-rest
-overflow_mul-line-in-loop-rest c = omega (arith, (at_line (goal.at.overflow_mul-line-in-loop-rest c).In-loop-rest).room, c.well-formed)
+overflow_mul-line-in-loop-rest c = omega (arith, (at_line (goal.at.overflow_mul-line-in-loop-rest c).In-loop-rest).room, c.well_formed)
 
 pub overflow_add-at : goal.overflow_add-at
-overflow_add-at c = omega (arith, (at_line (goal.at.overflow_add-at c).In-loop-rest).room, c.well-formed)
+overflow_add-at c = omega (arith, (at_line (goal.at.overflow_add-at c).In-loop-rest).room, c.well_formed)
 
 pub u64_at-requires : goal.u64_at-requires
 u64_at-requires c = (at_line (goal.at.u64_at-requires c).In-loop-rest).room
@@ -76,12 +76,13 @@ entry : (c : Joined-count-need) →
 entry c =
     let row = c.loop-rest.row in
     let t = count_trailing_zeros 64 c.loop-rest.rest in
-    ⊎_elim (λ w. w.1)
-    (λ w.
-    let enough : get_or row t 0 ≤ c.member_count-count.result = w.0.left in
-    let none : 0 ≡ get_or row t 0 - c.member_count-count.result = omega arith in
-    w.1 ∙ ap (set row t) none)
-    c.if-count-need.branch
+    elim c.if-count-need.branch [
+      then-count-need w ↦ w.row-is
+      | else-count-need w ↦
+        let enough : get_or row t 0 ≤ c.member_count-count.result = w.if-count-need.false in
+        let none : 0 ≡ get_or row t 0 - c.member_count-count.result = omega arith in
+        w.row-is ∙ ap (set row t) none
+    ]
 
 -- and the count is that of the line's operands that are set
 counted : (c : After-member_count-count) →
@@ -108,16 +109,14 @@ loop-rest-preserved c =
           (λ i ne. ap (λ (r : List ℕ). get_or r i 0) (entry (goal.at.loop-rest-preserved c).Joined-count-need) ∙ get_or-set_other l.row t i left 0 ne);
     }
 
--- HOLD
--- returns : tie.Need-returns invariant-loop decreases-loop
--- returns c i =
---     let start = c.before.before.before.before.before in
---     let z = start.args in
---     let l = c.before.loop in
---     let end : l.rest ≡ 0 = c.loop-test.false in
---     passed_all _ _ _ (rw end at l.invariant.passed) i ∙ less (is_member z.lines i) _ (get_or z.needs i 0)
---     ∙ ap (λ (k : ℕ). get_or z.needs i 0 - k) (in_lines start.requires.0.laid_out start.requires.1.0 c.before.before.before.level-words.ensures refl start.requires.1.1 z.x i (λ t bits. cond t (count_set bits) 0) (λ bs cs. refl))
---   where
---     less : (s : Bool) (k n : ℕ) → cond s (n - k) n ≡ n - cond s k 0
---     less true k n = refl
---     less false k n = omega arith
+less : (s : Bool) (k n : ℕ) → cond s (n - k) n ≡ n - cond s k 0
+less true k n = refl
+less false k n = omega arith
+
+pub returns : goal.returns
+returns c = λ i.
+    let z = c.args in
+    let l = c.loop-rest in
+    let end : l.rest ≡ 0 = c.loop-rest-test.false in
+    passed_all _ _ _ (rw end at l.invariant.passed) i ∙ less (is_member z.lines i) _ (get_or z.needs i 0)
+    ∙ ap (λ (k : ℕ). get_or z.needs i 0 - k) (in_lines c.requires.held.laid_out c.requires.k_lt_levels.0 c.level_words-at.ensures refl c.requires.k_lt_levels.1 z.x i (λ t bits. cond t (count_set bits) 0) (λ bs cs. refl))

@@ -11,9 +11,9 @@ use Rattle.sets.proofs.PassedLines.{PassedSoFar}
 use Rattle.evaluator.proofs.LookedLines.{masked}
 use Rattle.evaluator.proofs.lowered_row.Given as goal
 
-record Lowering (file rules : List ℕ) (x lines at line : ℕ) (row : List ℕ) (rest : ℕ) : Type 0 where
-  long : length row ≡ 64
-  passed : PassedSoFar (λ i. get_or rules i 0) (λ i. get_or rules i 0 - count_set (masked file at line x i)) lines rest (λ i. get_or row i 0)
+pub record Lowering (file rules : List ℕ) (x lines at line : ℕ) (row : List ℕ) (rest : ℕ) : Type 0 where
+  pub long : length row ≡ 64
+  pub passed : PassedSoFar (λ i. get_or rules i 0) (λ i. get_or rules i 0 - count_set (masked file at line x i)) lines rest (λ i. get_or row i 0)
 
 abbrev pub invariant-loop-rest : goal.invariant-loop-rest
 invariant-loop-rest l = Lowering l.file l.initial.row l.x l.lines l.at l.line l.row l.rest

@@ -15,9 +15,9 @@ use Rattle.sets.proofs.Membership.{member_differ}
 use Rattle.system.specs.Query.{count_set}
 use Rattle.sets.proofs.PassedLines.{others_fewer, FoundSoFar, found_none, found_all, found_same, found_one}
 use Rattle.evaluator.proofs.LookedLines.{masked, count_masked, Looked, looked, in_lines}
-use Rattle.evaluator.proofs.meeting.Invariants.{need, bits, part_of, some_of}
+use Rattle.evaluator.proofs.meeting.Invariants.{part_of, some_of}
 use Rattle.evaluator.proofs.meeting.Goals as goal
-use Rattle.evaluator.proofs.meeting.Goals.{After-u64_at, In-loop-rest, Joined-operands-ne0}
+use Rattle.evaluator.proofs.meeting.Goals.{After-u64_at, In-loop-rest, Joined-operands-ne0, then-operands-ne0, else-operands-ne0}
 
 abbrev all_of : ℕ → List Bool → Bool
 all_of need bits = some_of bits && leb need (count_set bits)
@@ -43,95 +43,120 @@ pub overflow_cast-i : goal.overflow_cast-i
 overflow_cast-i c = omega (arith, (at_line (goal.at.overflow_cast-i c).In-loop-rest).low.low)
 
 pub overflow_mul-line-in-loop-rest : goal.overflow_mul-line-in-loop-rest
-overflow_mul-line-in-loop-rest c = omega (arith, (at_line (goal.at.overflow_mul-line-in-loop-rest c).In-loop-rest).room, c.well-formed)
+overflow_mul-line-in-loop-rest c = omega (arith, (at_line (goal.at.overflow_mul-line-in-loop-rest c).In-loop-rest).room, c.well_formed)
 
 pub overflow_add-at : goal.overflow_add-at
-overflow_add-at c = omega (arith, (at_line (goal.at.overflow_add-at c).In-loop-rest).room, c.well-formed)
+overflow_add-at c = omega (arith, (at_line (goal.at.overflow_add-at c).In-loop-rest).room, c.well_formed)
 
 pub u64_at-requires : goal.u64_at-requires
 u64_at-requires c = (at_line (goal.at.u64_at-requires c).In-loop-rest).room
 
--- its operands that are set
-abbrev found : After-u64_at → ℕ
-found c = intersection c.u64-at.result c.before.before.before.before.before.before.args.x
-
-counted : (c : After-u64_at) → count_set (bits c) ≡ members (found c)
+-- the bits that a line's word selects are as many as its operands that are set
+counted : (c : After-u64_at) →
+    let z = c.args in
+    count_set (masked z.file.now c.level_words-at.result (8 * z.m.levels) z.x (count_trailing_zeros 64 c.loop-rest.rest)) ≡ members (intersection c.u64_at.result z.x)
 counted c =
     let z = c.args in
     count_masked z.file.now c.level_words-at.result (8 * z.m.levels) z.x
     (count_trailing_zeros 64 c.loop-rest.rest) c.u64_at.result c.u64_at.ensures (omega arith) (omega arith)
 
--- as many are set as the operands have members, so some are where there is an operand
-some-are : (c : After-u64_at) → some_of (bits c) ≡ not (eqb (found c) 0)
-some-are c = ap (λ (n : ℕ). not (eqb n 0)) (counted c) ∙ ap not (go (eqb (found c) 0) refl)
-  where
-    go : (t : Bool) → eqb (found c) 0 ≡ t → eqb (members (found c)) 0 ≡ t
-    go true e = eq-eqb (members (found c)) 0 (ap members (eqb-true (found c) 0 e) ∙ members_empty)
-    go false e = ne_eqb (members (found c)) 0 (λ (z : members (found c) ≡ 0). omega (arith, members_some (found c) (eqb-false (found c) 0 e)))
+module _ (bits : List Bool) (found : ℕ) (same : count_set bits ≡ members found) where
+  -- so some are set where there is an operand
+  some_are : some_of bits ≡ not (eqb found 0)
+  some_are = ap (λ (n : ℕ). not (eqb n 0)) same ∙ ap not (go (eqb found 0) refl)
+    where
+      go : (t : Bool) → eqb found 0 ≡ t → eqb (members found) 0 ≡ t
+      go true e = eq-eqb (members found) 0 (ap members (eqb-true found 0 e) ∙ members_empty)
+      go false e = ne_eqb (members found) 0 (λ (z : members found ≡ 0). omega (arith, members_some found (eqb-false found 0 e)))
 
--- they are a part of what is needed if they are fewer
-part-is : (c : After-u64_at) (t : Bool) → ltb (members (found c)) (need c) ≡ t → part_of (need c) (bits c) ≡ (not (eqb (found c) 0) && t)
-part-is c t e =
-    ap (λ (b : Bool). b && not (leb (need c) (count_set (bits c)))) (some-are c) ∙ ap (λ (n : ℕ). not (eqb (found c) 0) && not (leb (need c) n)) (counted c)
-    ∙ ap (λ (b : Bool). not (eqb (found c) 0) && b) (fewer t e)
-  where
-    fewer : (t : Bool) → ltb (members (found c)) (need c) ≡ t → not (leb (need c) (members (found c))) ≡ t
-    fewer true e = ap not (lt-leb (need c) (members (found c)) (ltb-true (members (found c)) (need c) e))
-    fewer false e = ap not (le-leb (need c) (members (found c)) (ltb-false (members (found c)) (need c) e))
+  -- they are a part of what is needed if they are fewer
+  part_is : (need : ℕ) (t : Bool) → ltb (members found) need ≡ t → part_of need bits ≡ (not (eqb found 0) && t)
+  part_is need t e =
+      ap (λ (b : Bool). b && not (leb need (count_set bits))) some_are ∙ ap (λ (n : ℕ). not (eqb found 0) && not (leb need n)) same
+      ∙ ap (λ (b : Bool). not (eqb found 0) && b) (fewer t e)
+    where
+      fewer : (t : Bool) → ltb (members found) need ≡ t → not (leb need (members found)) ≡ t
+      fewer true e = ap not (lt-leb need (members found) (ltb-true (members found) need e))
+      fewer false e = ap not (le-leb need (members found) (ltb-false (members found) need e))
+
+  -- one operand is enough
+  one_enough : (need : ℕ) → need ≤ 1 → part_of need bits ≡ false
+  one_enough need one = go (eqb found 0) refl
+    where
+      go : (t : Bool) → eqb found 0 ≡ t → part_of need bits ≡ false
+      go true e = part_is need (ltb (members found) need) refl ∙ rw e
+      go false e = part_is need false (le-ltb (members found) need (omega (arith, members_some found (eqb-false found 0 e)))) ∙ rw e
 
 -- the line itself where there is an operand, and else no line
-one_is : (c : Joined-operands-ne0) → let rest = c.loop-rest.rest in c.if-operands-ne0.one ≡ cond (not (eqb (found c) 0)) (bit_xor rest (intersection rest (rest - 1))) 0
+one_is : (c : Joined-operands-ne0) →
+    let rest = c.loop-rest.rest in
+    c.if-operands-ne0.one ≡ cond (not (eqb (intersection c.u64_at.result c.args.x) 0)) (bit_xor rest (intersection rest (rest - 1))) 0
 one_is c =
-    ⊎_elim (λ w. w.1 ∙ rw (ne_eqb (found c) 0 w.0.taken)) (λ w. w.1 ∙ rw (eq-eqb (found c) 0 w.0.left)) c.if-operands-ne0.branch
+    let found = intersection c.u64_at.result c.args.x in
+    elim c.if-operands-ne0.branch [
+      then-operands-ne0 w ↦ w.one-is ∙ rw (ne_eqb found 0 w.if-operands-ne0.true)
+      | else-operands-ne0 w ↦ w.one-is ∙ rw (eq-eqb found 0 w.if-operands-ne0.false)
+    ]
 
 pub bounds-needs-i : goal.bounds-needs-i
 bounds-needs-i c = (at_line (goal.at.bounds-needs-i c).In-loop-rest).low.low
 
--- the lines that have operands, with the line that is looked at
-hit_again : (c : Joined-operands-ne0) →
-    let z = c.args in
-    let rest = c.loop-rest.rest in
-    FoundSoFar (λ i. some_of (masked z.file.now c.level_words-at.result (8 * z.m.levels) z.x i)) z.lines (intersection rest (rest - 1)) (union c.loop-rest.hit c.if-operands-ne0.one)
-hit_again c =
-    found_one _ _ (at_line c).low c.loop-rest.invariant.some (not (eqb (found c) 0)) c.if-operands-ne0.one (some-are c) (one_is c)
-
 pub loop-rest-smaller-then-is_short : goal.loop-rest-smaller-then-is_short
 loop-rest-smaller-then-is_short c = others_fewer _ c.loop-rest-test.true
-
-pub loop-rest-preserved-then-is_short : goal.loop-rest-preserved-then-is_short
-loop-rest-preserved-then-is_short c =
-    record {
-      some = hit_again (goal.at.loop-rest-preserved-then-is_short c).Joined-operands-ne0;
-      part = found_one _ _ (at_line (goal.at.loop-rest-preserved-then-is_short c).In-loop-rest).low c.loop-rest.invariant.part (not (eqb (found c) 0)) c.if-operands-ne0.one
-          (part-is (goal.at.loop-rest-preserved-then-is_short c).After-u64_at true (sym c.is_short.ensures ∙ c.if-is_short.true) ∙ and-true (not (eqb (found c) 0)))
-          (one_is (goal.at.loop-rest-preserved-then-is_short c).Joined-operands-ne0);
-    }
 
 pub loop-rest-smaller-else-is_short : goal.loop-rest-smaller-else-is_short
 loop-rest-smaller-else-is_short c = others_fewer _ c.loop-rest-test.true
 
-pub loop-rest-preserved-else-is_short : goal.loop-rest-preserved-else-is_short
-loop-rest-preserved-else-is_short c =
-    record {
-      some = hit_again (goal.at.loop-rest-preserved-else-is_short c).Joined-operands-ne0;
-      part = found_same _ _ (at_line (goal.at.loop-rest-preserved-else-is_short c).In-loop-rest).low c.loop-rest.invariant.part
-          (part-is (goal.at.loop-rest-preserved-else-is_short c).After-u64_at false (sym c.is_short.ensures ∙ c.if-is_short.false) ∙ and-false (not (eqb (found c) 0)));
-    }
-
 pub loop-rest-smaller : goal.loop-rest-smaller
 loop-rest-smaller c = others_fewer _ c.loop-rest-test.true
 
+pub loop-rest-preserved-then-is_short : goal.loop-rest-preserved-then-is_short
+loop-rest-preserved-then-is_short c =
+    let at = goal.at.loop-rest-preserved-then-is_short c in
+    let z = c.args in
+    let t = count_trailing_zeros 64 c.loop-rest.rest in
+    let bits = masked z.file.now c.level_words-at.result (8 * z.m.levels) z.x t in
+    let found = intersection c.u64_at.result z.x in
+    let need = get_or z.needs.now t 0 in
+    let low = (at_line at.In-loop-rest).low in
+    let n = counted at.After-u64_at in
+    let one = one_is at.Joined-operands-ne0 in
+    record {
+      some = found_one _ _ low c.loop-rest.invariant.some _ _ (some_are bits found n) one;
+      part = found_one _ _ low c.loop-rest.invariant.part _ _ (part_is bits found n need true (sym c.is_short.ensures ∙ c.if-is_short.true) ∙ and-true (not (eqb found 0))) one;
+    }
+
+pub loop-rest-preserved-else-is_short : goal.loop-rest-preserved-else-is_short
+loop-rest-preserved-else-is_short c =
+    let at = goal.at.loop-rest-preserved-else-is_short c in
+    let z = c.args in
+    let t = count_trailing_zeros 64 c.loop-rest.rest in
+    let bits = masked z.file.now c.level_words-at.result (8 * z.m.levels) z.x t in
+    let found = intersection c.u64_at.result z.x in
+    let need = get_or z.needs.now t 0 in
+    let low = (at_line at.In-loop-rest).low in
+    let n = counted at.After-u64_at in
+    let one = one_is at.Joined-operands-ne0 in
+    record {
+      some = found_one _ _ low c.loop-rest.invariant.some _ _ (some_are bits found n) one;
+      part = found_same _ _ low c.loop-rest.invariant.part (part_is bits found n need false (sym c.is_short.ensures ∙ c.if-is_short.false) ∙ and-false (not (eqb found 0)));
+    }
+
 pub loop-rest-preserved : goal.loop-rest-preserved
 loop-rest-preserved c =
+    let at = goal.at.loop-rest-preserved c in
+    let z = c.args in
+    let t = count_trailing_zeros 64 c.loop-rest.rest in
+    let bits = masked z.file.now c.level_words-at.result (8 * z.m.levels) z.x t in
+    let found = intersection c.u64_at.result z.x in
+    let need = get_or z.needs.now t 0 in
+    let low = (at_line at.In-loop-rest).low in
+    let n = counted at.After-u64_at in
+    let one = one_is at.Joined-operands-ne0 in
     record {
-      some = hit_again (goal.at.loop-rest-preserved c).Joined-operands-ne0;
-      part = found_same _ _ (at_line (goal.at.loop-rest-preserved c).In-loop-rest).low c.loop-rest.invariant.part (go c (omega (arith, c.if-need-gt1.false)) (eqb (found c) 0) refl);
+      some = found_one _ _ low c.loop-rest.invariant.some _ _ (some_are bits found n) one;
+      part = found_same _ _ low c.loop-rest.invariant.part (one_enough bits found n need (omega (arith, c.if-need-gt1.false)));
     }
-  where
-    -- one operand is enough
-    go : (c : tie.After-u64-at invariant-loop decreases-loop) → need c ≤ 1 → (t : Bool) → eqb (found c) 0 ≡ t → part_of (need c) (bits c) ≡ false
-    go c one true e = part-is (goal.at.loop-rest-preserved c).After-u64_at (ltb (members (found c)) (need c)) refl ∙ rw e
-    go c one false e = part-is (goal.at.loop-rest-preserved c).After-u64_at false (le-ltb (members (found c)) (need c) (omega (arith, members_some (found c) (eqb-false (found c) 0 e)))) ∙ rw e
 
 -- those with operands but without the lowered ones have all that they need
 all_told : (s z l : Bool) → cond (s && z) (not (s && (z && not l))) (s && (z && not l)) ≡ (s && (z && l))

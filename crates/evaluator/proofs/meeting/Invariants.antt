@@ -13,25 +13,16 @@ use Rattle.sets.proofs.PassedLines.{FoundSoFar}
 use Rattle.evaluator.proofs.LookedLines.{masked}
 use Rattle.evaluator.proofs.meeting.Given as goal
 
-abbrev need : After-u64_at → ℕ
-need c = get_or c.before.before.before.before.before.before.args.needs.now (count_trailing_zeros 64 c.before.before.loop.rest) 0
-
--- the bits that the line's word selects, and what the line needs
-abbrev bits : After-u64_at → List Bool
-bits c =
-    let z = c.before.before.before.before.before.before.args in
-    masked z.file.now c.before.before.before.before.level-words.result (8 * z.m.levels) z.x (count_trailing_zeros 64 c.before.before.loop.rest)
-
-abbrev part_of : ℕ → List Bool → Bool
-part_of need bits = some_of bits && not (leb need (count_set bits))
-
 -- whether some of the bits are set, and whether these are all that is needed, or a part of it
-abbrev some_of : List Bool → Bool
+abbrev pub some_of : List Bool → Bool
 some_of bits = not (eqb (count_set bits) 0)
 
-record Told (file rules : List ℕ) (at line x lines rest hit lowered : ℕ) : Type 0 where
-  some : FoundSoFar (λ i. some_of (masked file at line x i)) lines rest hit
-  part : FoundSoFar (λ i. part_of (get_or rules i 0) (masked file at line x i)) lines rest lowered
+abbrev pub part_of : ℕ → List Bool → Bool
+part_of need bits = some_of bits && not (leb need (count_set bits))
+
+pub record Told (file rules : List ℕ) (at line x lines rest hit lowered : ℕ) : Type 0 where
+  pub some : FoundSoFar (λ i. some_of (masked file at line x i)) lines rest hit
+  pub part : FoundSoFar (λ i. part_of (get_or rules i 0) (masked file at line x i)) lines rest lowered
 
 abbrev pub invariant-loop-rest : goal.invariant-loop-rest
 invariant-loop-rest l = Told l.file l.needs l.at l.line l.x l.lines l.rest l.hit l.lowered

@@ -35,10 +35,10 @@ pub overflow_cast-i : goal.overflow_cast-i
 overflow_cast-i c = omega (arith, (at_line (goal.at.overflow_cast-i c).In-loop-rest).low.low)
 
 pub overflow_mul-line-in-loop-rest : goal.overflow_mul-line-in-loop-rest
-overflow_mul-line-in-loop-rest c = omega (arith, (at_line (goal.at.overflow_mul-line-in-loop-rest c).In-loop-rest).room, c.well-formed)
+overflow_mul-line-in-loop-rest c = omega (arith, (at_line (goal.at.overflow_mul-line-in-loop-rest c).In-loop-rest).room, c.well_formed)
 
 pub overflow_add-at : goal.overflow_add-at
-overflow_add-at c = omega (arith, (at_line (goal.at.overflow_add-at c).In-loop-rest).room, c.well-formed)
+overflow_add-at c = omega (arith, (at_line (goal.at.overflow_add-at c).In-loop-rest).room, c.well_formed)
 
 pub u64_at-requires : goal.u64_at-requires
 u64_at-requires c = (at_line (goal.at.u64_at-requires c).In-loop-rest).room

@@ -10,7 +10,7 @@ use Rattle.evaluator.proofs.LookedLines.{masked}
 use Rattle.evaluator.proofs.selecting.Given as goal
 
 -- whether the word of line i has a line of x
-abbrev has : List ℕ → ℕ → ℕ → ℕ → ℕ → Bool
+abbrev pub has : List ℕ → ℕ → ℕ → ℕ → ℕ → Bool
 has file at line x i = any (masked file at line x i)
 
 abbrev pub invariant-loop-rest : goal.invariant-loop-rest

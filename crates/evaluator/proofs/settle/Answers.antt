@@ -5,10 +5,7 @@ use Rattle.model.specs.Held.{system_in}
 use Rattle.evaluator.proofs.DecidedLines.{decided_all}
 use Rattle.evaluator.proofs.settle.Goals as goal
 
-
-
--- HOLD
--- returns : tie.Need-returns
--- returns c ys d =
---     let z = c.before.before.before.args in
---     decided_all (system_in z.file.now z.m) (z.x ∷ ys) z.a z.b _ (c.before.decide.ensures.1 ys d).decided
+pub returns : goal.returns
+returns c = λ ys d.
+    let z = c.args in
+    decided_all (system_in z.file.now z.m) (z.x ∷ ys) z.a z.b _ (c.decide-decision.ensures.next ys d).decided
