@@ -8,10 +8,10 @@ use lib.ListN.{get_or}
 use Rattle.trees.specs.Built.{built_children}
 use Rattle.built_route.proofs.child_lines.Given as goal
 
-record Within (n i lines at : ℕ) : Type 0 where
-  place : at < lines
-  few : lines ≤ n
-  same : (h : ℕ) → get_or (built_children n h) i [] ≡ get_or (built_children lines h) at []
+pub record Within (n i lines at : ℕ) : Type 0 where
+  pub place : at < lines
+  pub few : lines ≤ n
+  pub same : (h : ℕ) → get_or (built_children n h) i [] ≡ get_or (built_children lines h) at []
 
 abbrev pub invariant-loop-at : goal.invariant-loop-at
 invariant-loop-at l = Within l.n l.i l.lines l.at

@@ -41,21 +41,19 @@ loop-i-preserved c =
       passed = entries_more (line_needs (system_in c.args.file.now c.args.m)) l.needs l.i c.line_need.result (omega (arith, l.invariant.long)) c.line_need.ensures l.invariant.passed;
     }
 
--- HOLD
--- returns : tie.Need-returns invariant-loop decreases-loop
--- returns c a b =
---     let start = c.before.before.before in
---     let z = start.args in
---     carried_none (system_in z.file.now z.m) z.m.levels (replicate 64 1)
---     (λ i l. get_or-replicate 64 i 1 0 (omega (arith, start.requires.laid_out.few_lines)) ∙ sym (one_needed _ _ (old_threshold _ _ z.file.now i (sym c.before.is-old.ensures ∙ c.if1.true)) (start.requires.votes i))) a b
---   where
---     one_needed : (k t : ℕ) → t ≡ 0 → (2 ≤ k → 1 ≤ t) → needed k t ≡ 1
---     one_needed zero t e v = refl
---     one_needed (suc zero) t e v = refl
---     one_needed (suc (suc k)) t e v = absurd (omega (arith, v (omega arith)))
--- HOLD
--- returns-2 : tie.Need-returns-2 invariant-loop decreases-loop
--- returns-2 c a b =
---     let z = c.before.before.before.before.before.args in
---     let all : c.before.loop.i ≡ z.m.lines = omega (arith, c.before.loop.invariant.few) in
---     carried_none (system_in z.file.now z.m) z.m.levels c.before.loop.needs (λ i l. c.before.loop.invariant.passed i (omega arith)) a b
+one_needed : (k t : ℕ) → t ≡ 0 → (2 ≤ k → 1 ≤ t) → needed k t ≡ 1
+one_needed zero t e v = refl
+one_needed (suc zero) t e v = refl
+one_needed (suc (suc k)) t e v = absurd (omega (arith, v (omega arith)))
+
+pub returns-then-is_old : goal.returns-then-is_old
+returns-then-is_old c = λ a b.
+    let z = c.args in
+    carried_none (system_in z.file.now z.m) z.m.levels (replicate 64 1)
+    (λ i l. get_or-replicate 64 i 1 0 (omega (arith, c.requires.laid_out.few_lines)) ∙ sym (one_needed _ _ (old_threshold _ _ z.file.now i (sym c.is_old.ensures ∙ c.if-is_old.true)) (c.requires.votes i))) a b
+
+pub returns : goal.returns
+returns c = λ a b.
+    let z = c.args in
+    let all : c.loop-i.i ≡ z.m.lines = omega (arith, c.loop-i.invariant.few) in
+    carried_none (system_in z.file.now z.m) z.m.levels c.loop-i.needs (λ i l. c.loop-i.invariant.passed i (omega arith)) a b

@@ -10,10 +10,10 @@ use Rattle.model.specs.declared.layout.Model.{Model}
 use Rattle.evaluator.specs.ByLevels.{line_needs}
 use Rattle.evaluator.proofs.initial_needs.Given as goal
 
-record Filled (file : List ℕ) (m : Model) (n : ℕ) (rules : List ℕ) (i : ℕ) : Type 0 where
-  few : i ≤ n
-  long : length rules ≡ 64
-  passed : (j : ℕ) → j < i → get_or rules j 0 ≡ line_needs (system_in file m) j
+pub record Filled (file : List ℕ) (m : Model) (n : ℕ) (rules : List ℕ) (i : ℕ) : Type 0 where
+  pub few : i ≤ n
+  pub long : length rules ≡ 64
+  pub passed : (j : ℕ) → j < i → get_or rules j 0 ≡ line_needs (system_in file m) j
 
 abbrev pub invariant-loop-i : goal.invariant-loop-i
 invariant-loop-i l = Filled l.file l.m l.n l.needs l.i

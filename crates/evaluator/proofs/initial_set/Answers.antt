@@ -14,7 +14,7 @@ use Rattle.model.proofs.Places.{header_whole, line_kind, kind-room}
 use Rattle.system.proofs.LineSets.{set_same_values, digits_from, digits_fit, digits_none}
 use Rattle.evaluator.proofs.initial_set.Invariants.{is_one}
 use Rattle.evaluator.proofs.initial_set.Goals as goal
-use Rattle.evaluator.proofs.initial_set.Goals.{After-line_bytes-step, Else-file-at-eq1, In-loop-i, Then-file-at-eq1}
+use Rattle.evaluator.proofs.initial_set.Goals.{After-line_bytes-step, In-loop-i}
 
 -- without operands the lines of kind 1 alone are set, if a vote needs one at least
 kind_one : (kind t : ℕ) → (2 ≤ kind → 1 ≤ t) → eqb kind 1 ≡ value_of kind t []
@@ -81,39 +81,31 @@ bounds-file-at c =
     omega (arith, here (goal.at.bounds-file-at c).In-loop-i, rw (← c.line_bytes-step.ensures, ← c.kinds_at-first.ensures) at room)
 
 -- the digit of the line that is looked at
-abbrev Digit : In-loop-i → ℕ → Type 0
-Digit c d =
-    let z = c.before.before.before.before.before.args in
-    let l = c.before.loop in
-    More l.set z.m.lines l.i (is_one z.file.now c.before.before.before.kinds-at.result c.before.before.line-bytes.result) d
-
 digit_more : (c : In-loop-i) (t : Bool) →
-    eqb (get_or c.args.file.now (c.loop-i.at - c.line_bytes-step.result) 0) 1 ≡ t → Digit c (cond t 1 0)
+    let z = c.args in
+    let l = c.loop-i in
+    eqb (get_or z.file.now (l.at - c.line_bytes-step.result) 0) 1 ≡ t
+    → More l.set z.m.lines l.i (is_one z.file.now c.kinds_at-first.result c.line_bytes-step.result) (cond t 1 0)
 digit_more c t e =
     let l = c.loop-i in
+    let place = line_before _ _ l.i l.at c.loop-i-test.true l.invariant.place in
     more l.set c.args.m.lines l.i _ t c.requires.laid_out.few_lines c.loop-i-test.true l.invariant.few l.invariant.digits
-    (ap (λ (j : ℕ). eqb (get_or c.args.file.now j 0) 1) (omega (arith, here c)) ∙ e)
-
-all_more : (c : Then-file-at-eq1) → Digit c 1
-all_more c = digit_more c true (eq-eqb _ 1 c.if-file-at-eq1.true)
-
-other_more : (c : Else-file-at-eq1) → Digit c 0
-other_more c = digit_more c false (ne_eqb _ 1 c.if-file-at-eq1.false)
+    (ap (λ (j : ℕ). eqb (get_or c.args.file.now j 0) 1) (omega (arith, place)) ∙ e)
 
 pub overflow_mul-set : goal.overflow_mul-set
-overflow_mul-set c = omega (arith, (all_more (goal.at.overflow_mul-set c).Then-file-at-eq1).ranges)
+overflow_mul-set c = omega (arith, (digit_more (goal.at.overflow_mul-set c).In-loop-i true (eq-eqb _ 1 c.if-file-at-eq1.true)).fits)
 
 pub overflow_add-set : goal.overflow_add-set
-overflow_add-set c = omega (arith, (all_more (goal.at.overflow_add-set c).Then-file-at-eq1).ranges)
+overflow_add-set c = omega (arith, (digit_more (goal.at.overflow_add-set c).In-loop-i true (eq-eqb _ 1 c.if-file-at-eq1.true)).fits)
 
 pub loop-i-preserved-then-file-at-eq1 : goal.loop-i-preserved-then-file-at-eq1
-loop-i-preserved-then-file-at-eq1 c = record { few = omega (arith, c.loop-i.invariant.few); place = omega (arith, here (goal.at.loop-i-preserved-then-file-at-eq1 c).In-loop-i); digits = (all_more (goal.at.loop-i-preserved-then-file-at-eq1 c).Then-file-at-eq1).is }
+loop-i-preserved-then-file-at-eq1 c = record { few = omega (arith, c.loop-i.invariant.few); place = omega (arith, here (goal.at.loop-i-preserved-then-file-at-eq1 c).In-loop-i); digits = (digit_more (goal.at.loop-i-preserved-then-file-at-eq1 c).In-loop-i true (eq-eqb _ 1 c.if-file-at-eq1.true)).is }
 
 pub overflow_mul-set-else-file-at-eq1 : goal.overflow_mul-set-else-file-at-eq1
-overflow_mul-set-else-file-at-eq1 c = omega (arith, (other_more (goal.at.overflow_mul-set-else-file-at-eq1 c).Else-file-at-eq1).ranges)
+overflow_mul-set-else-file-at-eq1 c = omega (arith, (digit_more (goal.at.overflow_mul-set-else-file-at-eq1 c).In-loop-i false (ne_eqb _ 1 c.if-file-at-eq1.false)).fits)
 
 pub loop-i-preserved : goal.loop-i-preserved
-loop-i-preserved c = record { few = omega (arith, c.loop-i.invariant.few); place = omega (arith, here (goal.at.loop-i-preserved c).In-loop-i); digits = omega (arith, (other_more (goal.at.loop-i-preserved c).Else-file-at-eq1).is) }
+loop-i-preserved c = record { few = omega (arith, c.loop-i.invariant.few); place = omega (arith, here (goal.at.loop-i-preserved c).In-loop-i); digits = omega (arith, (digit_more (goal.at.loop-i-preserved c).In-loop-i false (ne_eqb _ 1 c.if-file-at-eq1.false)).is) }
 
 pub returns : goal.returns
 unfolding initial_set

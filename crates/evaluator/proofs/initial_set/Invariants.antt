@@ -10,13 +10,13 @@ use Rattle.system.specs.Query.{set_of}
 use Rattle.evaluator.proofs.initial_set.Given as goal
 
 -- whether the kind of line j is 1, the kinds being `step` bytes apart from `first` on
-abbrev is_one : List ℕ → ℕ → ℕ → ℕ → Bool
+abbrev pub is_one : List ℕ → ℕ → ℕ → ℕ → Bool
 is_one file first step j = eqb (get_or file (first + step * j) 0) 1
 
-record Passed (file : List ℕ) (first step n set i at : ℕ) : Type 0 where
-  few : i ≤ n
-  place : at ≡ first + step * i
-  digits : set ≡ set_of n (is_one file first step) / 2 ^ i
+pub record Passed (file : List ℕ) (first step n set i at : ℕ) : Type 0 where
+  pub few : i ≤ n
+  pub place : at ≡ first + step * i
+  pub digits : set ≡ set_of n (is_one file first step) / 2 ^ i
 
 abbrev pub invariant-loop-i : goal.invariant-loop-i
 invariant-loop-i l = Passed l.file l.first l.step l.initial.i l.set l.i l.at

@@ -24,22 +24,19 @@ outcome c ys d =
     let l = c.loop-rest in
     rw (← c.settle-set.ensures ys d) (one_query l.rest c.settle-set.result (λ e. omega (arith, c.loop-rest-test.true)))
 
--- HOLD
--- loop-holds : tie.Need-loop-init invariant-loop decreases-loop
--- unfolding plain
--- loop-holds c rounds h ys d = record { fuel = rounds; more = h; same = rw c.start_of_lem.ensures }
--- HOLD
--- returns : tie.Need-returns invariant-loop decreases-loop
--- returns c rounds h ys d =
---     let l = c.before.before.before.loop in
---     sym (round_same _ (l.invariant rounds h ys d) _ _ (outcome c.before ys d) c.if1.true)
--- HOLD
--- loop-again : tie.Need-loop-preserved invariant-loop decreases-loop
--- loop-again c rounds h ys d =
---     let l = c.before.before.before.loop in
---     round_more _ (l.invariant rounds h ys d) (le_refl 1) _ _ (outcome c.before ys d) c.if1.false
--- HOLD
--- returns-2 : tie.Need-returns-2 invariant-loop decreases-loop
--- returns-2 c rounds h ys d =
---     let l = c.before.loop in
---     sym (round_spent _ (l.invariant rounds h ys d) (no_query l.rest _ c.loop-test.false))
+pub loop-rest-init : goal.loop-rest-init
+unfolding plain
+loop-rest-init c = λ rounds h ys d. record { fuel = rounds; more = h; same = rw c.start_of-x.ensures }
+
+pub returns-then-set-x : goal.returns-then-set-x
+returns-then-set-x c = λ rounds h ys d.
+    sym (round_same _ (c.loop-rest.invariant rounds h ys d) _ _ (outcome (goal.at.returns-then-set-x c).After-settle-set ys d) c.if-set-x.true)
+
+pub loop-rest-preserved : goal.loop-rest-preserved
+loop-rest-preserved c = λ rounds h ys d.
+    round_more _ (c.loop-rest.invariant rounds h ys d) (le_refl 1) _ _ (outcome (goal.at.loop-rest-preserved c).After-settle-set ys d) c.if-set-x.false
+
+pub returns : goal.returns
+returns c = λ rounds h ys d.
+    let l = c.loop-rest in
+    sym (round_spent _ (l.invariant rounds h ys d) (no_query l.rest _ c.loop-rest-test.false))

@@ -14,7 +14,7 @@ use Rattle.plain_route.proofs.Rounds.{Ahead}
 use Rattle.plain_route.proofs.innermost_rounds.Given as goal
 
 -- one round: a query
-abbrev round_of : System → ℕ → ℕ → List ℕ → ℕ → Run ℕ
+abbrev pub round_of : System → ℕ → ℕ → List ℕ → ℕ → Run ℕ
 round_of s a b ys x = record { value = bounded_step a b (query s (x ∷ ys)); queries = 1 }
 
 abbrev pub invariant-loop-rest : goal.invariant-loop-rest

@@ -10,6 +10,7 @@ use Rattle.system.specs.System.{sign}
 use Rattle.model.specs.Held.{system_in}
 use Rattle.routes.specs.Parts.{least_of}
 use Rattle.routes.proofs.shared.count_least.Goals as goal
+use Rattle.routes.proofs.shared.count_least.Goals.{then-not-is_greatest, else-not-is_greatest}
 
 pub loop-k-init : goal.loop-k-init
 unfolding least_among
@@ -22,11 +23,11 @@ loop-k-preserved c =
     let told = c.is_greatest.ensures in
     let so_far : l.least ≡ least_of sys l.k = l.invariant.2 in (
       omega arith,
-      ⊎_elim (λ w. omega arith) (λ w. omega arith) c.if-not-is_greatest.branch,
-      ⊎_elim
-          (λ w. w.1 ∙ ap (λ (n : ℕ). n + 1) so_far ∙ add-one _ ∙ sym (ap (least_of sys) (add-one l.k) ∙ least_at_least (sign sys) l.k (sym told ∙ not-true _ w.0.taken)))
-          (λ w. w.1 ∙ so_far ∙ sym (ap (least_of sys) (add-one l.k) ∙ least_at_greatest (sign sys) l.k (sym told ∙ not-false _ w.0.left)))
-          c.if-not-is_greatest.branch,
+      elim c.if-not-is_greatest.branch [ then-not-is_greatest w ↦ omega arith | else-not-is_greatest w ↦ omega arith ],
+      elim c.if-not-is_greatest.branch [
+        then-not-is_greatest w ↦ w.least-is ∙ ap (λ (n : ℕ). n + 1) so_far ∙ add-one _ ∙ sym (ap (least_of sys) (add-one l.k) ∙ least_at_least (sign sys) l.k (sym told ∙ w.if-not-is_greatest.true))
+        | else-not-is_greatest w ↦ w.least-is ∙ so_far ∙ sym (ap (least_of sys) (add-one l.k) ∙ least_at_greatest (sign sys) l.k (sym told ∙ w.if-not-is_greatest.false))
+      ],
     )
 
 pub returns : goal.returns
