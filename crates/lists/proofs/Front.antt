@@ -2,7 +2,7 @@
 -- Assumes nothing.
 use mathlib.Core.List.{List, [], ◌∷◌, ◌++◌, append_assoc, append-nil}
 use mathlib.Core.Path.{◌≡◌, sym, ◌∙◌, ap, ap₂}
-use Prim.Native.Nat.{ℕ, suc, ◌+◌, ◌-◌, ◌<◌}
+use Prim.Native.Nat.{ℕ, suc, ◌+◌, ◌-◌, ◌≤◌, ◌<◌}
 use native.Mathlib.Decide.{dec_lt}
 use native.Mathlib.Numerals.{add-one}
 use native.Mathlib.Omega.{arith}
@@ -40,19 +40,16 @@ pub front_all : (f : List ℕ → List ℕ) (src s : List ℕ) {l : List ℕ} {i
 front_all f src s all end held =
     held ∙ ap₂ (λ (r : List ℕ) (j : ℕ). f r ++ drop j s) (ap (λ (j : ℕ). take j src) all ∙ take-length src) end
 
--- all of src in front, as a copy says it
-pub all_copied : (src rest l : List ℕ) → l ≡ take (length src) src ++ rest → l ≡ src ++ rest
-all_copied src rest l copied = copied ∙ ap (λ (r : List ℕ). r ++ rest) (take-length src)
-
--- n entries of src, from a, which is b, up to e, in front of what dst holds behind them
-pub part_copied :
-    (src dst l : List ℕ) (a b e n : ℕ) → a ≡ b → e ≡ a + n
-    → l ≡ take (length (take (e - a) (drop a src))) (take (e - a) (drop a src)) ++ drop (length (take (e - a) (drop a src))) dst
-    → l ≡ take n (drop b src) ++ drop (length (take n (drop b src))) dst
-part_copied src dst l a b e n begin end copied =
-    let count : e - a ≡ n = omega arith in
-    all_copied (take (e - a) (drop a src)) _ l copied
-    ∙ ap₂ (λ (i j : ℕ). take i (drop j src) ++ drop (length (take i (drop j src))) dst) count begin
+-- the part of the list from a up to b is lent, and all of new is copied into it
+pub part_put :
+    (front new s l part : List ℕ) (a b : ℕ) → length front ≡ a → a ≤ b → l ≡ front ++ drop a s → part ≡ new
+    → put_mid a (b - a) l part ≡ (front ++ new) ++ drop b s
+part_put front new s l part a b e low held wrote =
+    let next : a + (b - a) ≡ b = omega arith in
+    let behind : drop (b - a) (drop a l) ≡ drop b s =
+        ap (drop (b - a)) (ap (drop a) held ∙ drop_at front (drop a s) a e) ∙ drop-drop (b - a) a s ∙ ap (λ (j : ℕ). drop j s) next in
+    ap₂ ◌++◌ (ap (take a) held ∙ take_at front (drop a s) a e) (ap₂ ◌++◌ wrote behind)
+    ∙ sym (append_assoc front new (drop b s))
 
 -- filling a list from the back: one more entry is stored in front of what is written so far
 pub back_store : (s l rest : List ℕ) (i v : ℕ) → i < length s → l ≡ take (suc i) s ++ rest → set l i v ≡ take i s ++ v ∷ rest

@@ -1,5 +1,6 @@
 // The leaf counts of the built-in trees. Definitions: specs/.
 #![tactic(auto)]
+
 ghost use Rattle.std.specs.Prelude.{◌≡◌, ◌≤◌};
 ghost use Rattle.trees.specs.Built.{leaf_count};
 

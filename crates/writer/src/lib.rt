@@ -1,5 +1,6 @@
 // Writing a model's file into a lent buffer. Definitions: specs/.
 #![tactic(auto)]
+
 ghost use Rattle.std.specs.Prelude.{◌≡◌, [], ◌*◌, ◌≤◌, length};
 ghost use Rattle.system.specs.System.{system_of};
 ghost use Rattle.system.specs.Query.{operand_count};

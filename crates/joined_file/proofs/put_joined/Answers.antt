@@ -4,13 +4,12 @@ use mathlib.Core.List.{List}
 use mathlib.Core.Path.{◌≡◌, refl, ◌∙◌, ap, ap₂}
 use Prim.Native.Nat.{ℕ, ◌+◌, ◌*◌}
 use native.Mathlib.Omega.{arith}
-use lib.ListN.{length, drop, length-append, length-drop}
+use lib.ListN.{length, take, drop, length-append, length-drop}
 use lib.Seq.{length-take-le}
 use Rattle.model.specs.File.{file_length}
 use Rattle.model.specs.Held.{system_in}
 use Rattle.model.specs.declared.layout.Model.{Model}
 use Rattle.model.proofs.Lines.{every_length}
-use Rattle.lists.proofs.Front.{part_copied}
 use Rattle.encoder.proofs.Sections.{sections_written}
 use Rattle.joined_file.specs.AtHand.{joined_in}
 use Rattle.joined_file.proofs.put_joined.Goals as goal
@@ -37,6 +36,6 @@ returns c =
     sections_written n d both.signs both.kinds both.thresholds both.words c.args.buffer.now
     kinds-at.result words_at.result (file_length n d) (2 * n) (8 * (n * d))
     (omega (arith, signs, kinds-at.ensures)) (ap (λ (j : ℕ). 2 * j) kinds) (omega (arith, kinds-at.ensures, words_at.ensures)) (omega (arith, words_at.ensures)) _ _ _ _
-    c.put_header.ensures (part_copied first _ _ 16 16 kinds-at.result d refl kinds-at.ensures c.copy.ensures.1)
+    c.put_header.ensures (c.copy_from_slice.ensures.after ∙ ap (λ (j : ℕ). take j (drop 16 first)) (omega (arith, kinds-at.ensures)))
     c.put_both_lines.ensures c.put_both_words.ensures
 

@@ -9,7 +9,7 @@ use Rattle.numbers.specs.Numbers.{words_from, word_bytes}
 use Rattle.joined_file.proofs.put_moved_words.Given as goal
 
 -- the words that are put, of a file that has them from `first` on
-abbrev moved : List ℕ → ℕ → ℕ → ℕ → List ℕ
+abbrev pub moved : List ℕ → ℕ → ℕ → ℕ → List ℕ
 moved file up first count = map (moved_up up) (words_from count (drop first file))
 
 abbrev pub invariant-loop-j : goal.invariant-loop-j

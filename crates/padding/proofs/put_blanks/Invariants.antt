@@ -8,10 +8,10 @@ use Rattle.text.specs.Text.{Puts}
 use Rattle.padding.specs.Padding.{blanks}
 use Rattle.padding.proofs.put_blanks.Given as goal
 
-record Blanking (out₀ : List ℕ) (at count : ℕ) (out : List ℕ) (i : ℕ) : Type 0 where
-  few : i ≤ count
-  long : length out ≡ length out₀
-  put : Puts at (blanks i) out₀ out (at + i)
+pub record Blanking (out₀ : List ℕ) (at count : ℕ) (out : List ℕ) (i : ℕ) : Type 0 where
+  pub few : i ≤ count
+  pub long : length out ≡ length out₀
+  pub put : Puts at (blanks i) out₀ out (at + i)
 
 abbrev pub invariant-loop-i : goal.invariant-loop-i
 invariant-loop-i l = Blanking l.initial.out l.at l.count l.out l.i

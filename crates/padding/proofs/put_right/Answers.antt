@@ -31,7 +31,7 @@ returns c =
     let k = c.args.k in
     let x = c.args.x in
     let same = c.decimal_places-places.ensures.0 in
-    let fill = subst (λ (n : ℕ). Puts c.args.at (blanks (k - n)) c.args.out.now c.put_blanks-first.new.0 c.put_blanks-first.result) (same ∙ sym (digits_length 10 (places 19 x) x)) c.put_blanks-first.ensures in
-    let number = subst (λ (n : ℕ). Puts c.put_blanks-first.result (digits 10 n x) c.put_blanks-first.new.0 c.put_digits.new.0 c.put_digits.result) same c.put_digits.ensures in
+    let fill = subst (λ (n : ℕ). Puts c.args.at (blanks (k - n)) c.args.out.now c.put_blanks-first.new.out c.put_blanks-first.result) (same ∙ sym (digits_length 10 (places 19 x) x)) c.put_blanks-first.ensures in
+    let number = subst (λ (n : ℕ). Puts c.put_blanks-first.result (digits 10 n x) c.put_blanks-first.new.out c.put_digits.new.out c.put_digits.result) same c.put_digits.ensures in
     puts_then (omega (arith, c.requires)) fill number
 

@@ -8,9 +8,9 @@ use Rattle.model.specs.Held.{system_in}
 use Rattle.reader.proofs.read_lines.Given as goal
 
 -- l is `old` with the first i entries of `new` in place of its own
-record Begun (new old : List ℕ) (i : ℕ) (l : List ℕ) : Type 0 where
-  entries : l ≡ take i new ++ drop i old
-  long : length l ≡ length old
+pub record Begun (new old : List ℕ) (i : ℕ) (l : List ℕ) : Type 0 where
+  pub entries : l ≡ take i new ++ drop i old
+  pub long : length l ≡ length old
 
 abbrev pub invariant-loop-i : goal.invariant-loop-i
 invariant-loop-i l =

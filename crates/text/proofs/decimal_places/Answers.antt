@@ -20,7 +20,7 @@ last zero rest h = refl
 last (suc m) rest h = rw (lt-ltb rest 10 (omega arith))
 
 step : {x rest n : ℕ} → 9 < rest → Counting x rest n → Counting x (rest / 10) (n + 1)
-step {x} {rest} {n} h c = go c.more c.counted c.room c.ranges
+step {x} {rest} {n} h c = go c.more c.counted c.room c.fits
   where
     go : (m : ℕ) → places 19 x + 1 ≡ n + places m rest → n + m ≡ 20 → rest < 10 ^ suc m → Counting x (rest / 10) (n + 1)
     go zero e r f = absurd (omega arith)

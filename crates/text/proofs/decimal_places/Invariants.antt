@@ -6,11 +6,11 @@ use Prim.Native.Nat.{ℕ, suc, ◌+◌, ◌^◌, ◌<◌}
 use Rattle.text.specs.Text.{places}
 use Rattle.text.proofs.decimal_places.Given as goal
 
-record Counting (x rest n : ℕ) : Type 0 where
-  more : ℕ
-  counted : places 19 x + 1 ≡ n + places more rest
-  room : n + more ≡ 20
-  fits : rest < 10 ^ suc more
+pub record Counting (x rest n : ℕ) : Type 0 where
+  pub more : ℕ
+  pub counted : places 19 x + 1 ≡ n + places more rest
+  pub room : n + more ≡ 20
+  pub fits : rest < 10 ^ suc more
 
 abbrev pub invariant-loop-rest : goal.invariant-loop-rest
 invariant-loop-rest l = Counting l.x l.rest l.n

@@ -1,4 +1,4 @@
--- `text::put` meets its contract: the rest of the buffer from the place on is lent, and comes back with the text in front.
+-- `text::put` meets its contract: the part of the buffer from the place on that is as long as the text is lent, and comes back as the text.
 -- Assumes nothing.
 use mathlib.Core.List.{append_assoc}
 use mathlib.Core.Path.{refl, sym, ◌∙◌}
@@ -6,7 +6,7 @@ use Prim.Native.Nat.{◌+◌}
 use native.Mathlib.Omega.{arith}
 use lib.ListN.{length, take, drop, take-append-drop}
 use lib.Seq.{length-take-le}
-use Rattle.lists.proofs.Front.{front_part, all_copied}
+use Rattle.lists.proofs.Front.{part_put}
 use Rattle.text.proofs.put.Goals as goal
 
 pub returns : goal.returns
@@ -14,10 +14,8 @@ returns c =
     let at = c.args.at in
     let l = c.args.out.now in
     let t = c.args.text.now in
-    let copied = all_copied t _ _ c.copy.ensures.1 in
     record {
-      end = omega arith;
-      left = front_part (take at l) t l l _ at (length t) (at + length t) (length-take-le at l (omega (arith, c.requires))) refl (sym (take-append-drop at l)) copied
+      end = refl;
+      left = part_put (take at l) t l l _ at (at + length t) (length-take-le at l (omega arith)) (omega arith) (sym (take-append-drop at l)) c.copy_from_slice.ensures.after
           ∙ append_assoc (take at l) t (drop (at + length t) l);
     }
-

@@ -8,6 +8,6 @@ use Rattle.text.proofs.put_decimal.Goals as goal
 pub returns : goal.returns
 returns c =
     let put = c.put_digits in
-    subst (λ (k : ℕ). Puts c.args.at (digits 10 k c.args.x) c.args.out.now put.new.0 put.result) c.decimal_places.ensures.0
+    subst (λ (k : ℕ). Puts c.args.at (digits 10 k c.args.x) c.args.out.now put.new.out put.result) c.decimal_places.ensures.0
     put.ensures
 

@@ -3,35 +3,33 @@
 -- Assumes nothing.
 use mathlib.Core.List.{List}
 use mathlib.Core.Path.{◌≡◌, sym, ◌∙◌, ap}
-use Prim.Native.Nat.{ℕ, zero, suc, ◌-◌, ◌^◌, ◌<◌}
+use Prim.Native.Nat.{ℕ, zero, suc, ◌+◌, ◌-◌, ◌*◌, ◌^◌, ◌<◌, ◌≤◌}
 use native.Mathlib.Omega.{arith}
-use lib.Dec.{ltb, ltb→lt}
+use lib.Dec.{T, ltb, ltb→lt}
 use borrow.Author.Rules.{rules}
-use borrow.Table.Row as row
+use lib.ListN.{length, get_or}
+use mir.Syntax.{w64}
+use mir.Val.{Fits}
 use Rattle.trees.specs.Built.{leaf_count}
 use Rattle.trees.proofs.Built.{leaf_none, leaf_zero, leaf_one}
-use Rattle.trees.proofs.Every.{at}
-use Rattle.trees.proofs.Counts.{entry_count}
-use Rattle.trees.proofs.leaf_count_at.Reads as reads
-use Rattle.trees.proofs.leaf_count_at.Lts as lts
+use Rattle.trees.proofs.Every.{every, at}
+use Rattle.trees.proofs.Counts.{follows, entry_count}
 use Rattle.trees.proofs.leaf_count_at.Goals as goal
-use Rattle.trees.proofs.leaf_count_at.Goals.{Then-h-gt1}
 
--- the table, which the code has in its local 4
-abbrev table : Then-h-gt1 → List ℕ
-table c = row.get 4 (lts.T5).locals (lts.m3 reads.Pre reads.Post c.before)
-
--- the index, in its local 7
-abbrev index : Then-h-gt1 → ℕ
-index c = row.get 7 (lts.T10).locals (lts.m8 reads.Pre reads.Post c.before)
+-- each number of a table that passes this test fits
+number_fits : (table : List ℕ) (k : ℕ) → T (every (λ i x. ltb x (2 ^ 64)) 0 table) → k < length table → Fits w64 (get_or table k 0)
+number_fits table k t l = record { fits = ltb→lt _ _ (at (λ i x. ltb x (2 ^ 64)) table t k l) }
 
 pub overflow_cast-result : goal.overflow_cast-result
-overflow_cast-result c = record { fits = ltb→lt _ _ (at (λ k x. ltb x (2 ^ 64)) (table c) tt (index c) (search rules)) }
+overflow_cast-result c = search (rules, number_fits)
+
+-- the number for height h in a table that follows the recurrence
+number_count : (table : List ℕ) (n h : ℕ) → T (every (follows table) 0 table) → 1 < h → n ≤ 64 → (h - 2) * 65 + n < length table → get_or table ((h - 2) * 65 + n) 0 ≡ leaf_count n h
+number_count table n h t high few l =
+    entry_count table t (h - 2) n few l ∙ ap (leaf_count n) (omega arith)
 
 pub returns-then-h-gt1 : goal.returns-then-h-gt1
-returns-then-h-gt1 c =
-    entry_count (table c) tt (c.args.h - 2) c.args.n (search rules) (search rules)
-    ∙ ap (leaf_count c.args.n) (omega (arith, c.if-h-gt1.true))
+returns-then-h-gt1 c = search (rules, number_count)
 
 pub returns-then-h-eq1 : goal.returns-then-h-eq1
 returns-then-h-eq1 c =
@@ -52,4 +50,3 @@ pub returns : goal.returns
 returns c =
     height_0 c.args.n c.args.h (omega (arith, c.if-n-eq0.false))
     (omega (arith, c.if-h-gt1.false, c.if-h-eq1.false))
-

@@ -53,4 +53,3 @@ loop-i-preserved c =
 
 pub returns : goal.returns
 returns c = sym (below_false _ _ c.loop-i-test.false c.loop-i.invariant.1)
-

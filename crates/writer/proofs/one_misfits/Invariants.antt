@@ -10,7 +10,7 @@ use Rattle.model.proofs.Searches.{NoneBelow}
 use Rattle.writer.proofs.one_misfits.Given as goal
 
 -- the contract's test of a line
-abbrev line_misfits : ℕ → List ℕ → List ℕ → List ℕ → ℕ → Bool
+abbrev pub line_misfits : ℕ → List ℕ → List ℕ → List ℕ → ℕ → Bool
 line_misfits d kinds thresholds words = threshold_misfits (system_of (length kinds) d [] kinds thresholds words)
 
 abbrev pub invariant-loop-i : goal.invariant-loop-i

@@ -21,4 +21,3 @@ returns c =
     let words = c.args.words.now in
     let all : c.loop-k.k ≡ length words = omega arith in
     c.loop-k.invariant.2 ∙ ap (λ (k : ℕ). operand_count (take k words)) all ∙ ap operand_count (take-length words)
-
