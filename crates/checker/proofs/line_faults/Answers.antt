@@ -1,5 +1,4 @@
 use mathlib.Core.Bool.{Bool, true, false, or-true, or-false}
-use mathlib.Core.Logic.{⊎_elim}
 use mathlib.Core.List.{List, [], ◌∷◌}
 use mathlib.Core.Path.{◌≡◌, refl, sym, ◌∙◌, ap, ap₂}
 use Prim.Native.Nat.{ℕ, zero, suc, ◌+◌, ◌≤◌, ◌-◌}
@@ -20,7 +19,7 @@ use Rattle.model.proofs.Lines.{every_length}
 use Rattle.model.proofs.Places.{old_words, old_threshold}
 use Rattle.checker.proofs.line_faults.Invariants.{kind_over}
 use Rattle.checker.proofs.line_faults.Goals as goal
-use Rattle.checker.proofs.line_faults.Goals.{After-old_words_at-last, After-one_over, Joined-misfit, Joined-over, Start}
+use Rattle.checker.proofs.line_faults.Goals.{After-one_over, Joined-misfit, Joined-over, then-over, else-over, then-misfit, else-misfit}
 
 -- entries side by side are a part of the list
 every_one : (n : ℕ) (s : List ℕ) → n ≤ length s → every 1 n s ≡ take n s
