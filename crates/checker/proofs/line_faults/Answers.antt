@@ -1,5 +1,4 @@
 use mathlib.Core.Bool.{Bool, true, false, or-true, or-false}
-use mathlib.Core.Logic.{⊎_elim}
 use mathlib.Core.List.{List, [], ◌∷◌}
 use mathlib.Core.Path.{◌≡◌, refl, sym, ◌∙◌, ap, ap₂}
 use Prim.Native.Nat.{ℕ, zero, suc, ◌+◌, ◌≤◌, ◌-◌}
@@ -9,7 +8,6 @@ use native.Mathlib.Omega.{arith}
 use lib.Dec.{ltb}
 use lib.ListN.{length, get_or, take, drop, length-drop}
 use borrow.Author.Tests.{ltb-false}
-use Rattle.system.specs.System.{System}
 use Rattle.system.specs.Query.{words_of, operand_count}
 use Rattle.model.specs.Checks.{some, some_below, threshold_misfits}
 use Rattle.model.specs.Held.{system_in}
@@ -20,7 +18,7 @@ use Rattle.model.proofs.Lines.{every_length}
 use Rattle.model.proofs.Places.{old_words, old_threshold}
 use Rattle.checker.proofs.line_faults.Invariants.{kind_over}
 use Rattle.checker.proofs.line_faults.Goals as goal
-use Rattle.checker.proofs.line_faults.Goals.{After-old_words_at-last, After-one_over, Joined-misfit, Joined-over, Start}
+use Rattle.checker.proofs.line_faults.Goals.{After-one_over, Joined-misfit, Joined-over, then-over, else-over, then-misfit, else-misfit}
 
 -- entries side by side are a part of the list
 every_one : (n : ℕ) (s : List ℕ) → n ≤ length s → every 1 n s ≡ take n s
@@ -45,6 +43,7 @@ module _ (n d : ℕ) (file : List ℕ) (old : is_old n d file ≡ true) where
       let kind = ltb-false 1 (get_or s.kinds i 0) (false_some (ltb 1) s.kinds none i (rw (every_length _ n _) l)) in
       no_vote (get_or s.kinds i 0) (get_or s.thresholds i 0) (operand_count (words_of s i)) (omega arith) ∙ rw (old_threshold n d file i old))
 
+-- a search with one number more: found before, or by it alone
 module _ (p : ℕ → Bool) (i : ℕ) {found next : Bool} (h : found ≡ some_below i p) where
   found_before : found ≡ true → next ≡ found → next ≡ some_below (i + 1) p
   found_before e f = f ∙ e ∙ sym (rw (add-one i, ← h, e) (or-true (p i)))
@@ -52,73 +51,62 @@ module _ (p : ℕ → Bool) (i : ℕ) {found next : Bool} (h : found ≡ some_be
   found_here : found ≡ false → next ≡ p i → next ≡ some_below (i + 1) p
   found_here e f = f ∙ sym (rw (add-one i, ← h, e) (or-false (p i)))
 
--- a search with one number more: found before, or by it alone
-abbrev system : Start → System
-system start = system_in start.args.file.now start.args.m
-
--- an old file, and its kinds are in it
-old : (c : After-old_words_at-last) →
-    let z = c.args in
-    is_old z.m.lines z.m.levels z.file.now ≡ true
-old c = sym c.is_old.ensures ∙ c.if-is_old.true
-
-kinds-in : (c : After-old_words_at-last) →
-    let z = c.args in
-    kinds_at z.m.levels + z.m.lines ≤ length z.file.now
-kinds-in c =
-    omega (arith, old_words c.requires (old c), c.requires.whole)
-
 pub slice_bounds-one_over-end : goal.slice_bounds-one_over-end
-slice_bounds-one_over-end c = omega (arith, kinds-in (goal.at.slice_bounds-one_over-end c).After-old_words_at-last, c.old_words_at-last.ensures)
+slice_bounds-one_over-end c =
+    omega (arith, old_words c.requires (sym c.is_old.ensures ∙ c.if-is_old.true), c.requires.whole, c.old_words_at-last.ensures)
 
 -- the kinds are what is searched
 kinds-test : (c : After-one_over) →
     let z = c.args in
-    c.one_over.result ≡ some (ltb 1) (system_in z.file.now z.m).kinds
+    (is_old z.m.lines z.m.levels z.file.now ≡ true) × (c.one_over.result ≡ some (ltb 1) (system_in z.file.now z.m).kinds)
 kinds-test c =
     let z = c.args in
     let file = z.file.now in
+    let old = sym c.is_old.ensures ∙ c.if-is_old.true in
+    let within : kinds_at z.m.levels + z.m.lines ≤ length file = omega (arith, old_words c.requires old, c.requires.whole) in
     let span : c.old_words_at-last.result - c.kinds_at-first.result ≡ z.m.lines = omega (arith, c.old_words_at-last.ensures, c.kinds_at-first.ensures) in
-    c.one_over.ensures
-    ∙ ap₂ (λ (k at : ℕ). some (ltb 1) (take k (drop at file))) span c.kinds_at-first.ensures
-    ∙ ap (some (ltb 1)) (old_kinds z.m.lines z.m.levels file (old c) (kinds-in c))
+    (
+      old,
+      c.one_over.ensures
+      ∙ ap₂ (λ (k at : ℕ). some (ltb 1) (take k (drop at file))) span c.kinds_at-first.ensures
+      ∙ ap (some (ltb 1)) (old_kinds z.m.lines z.m.levels file old within),
+    )
 
 pub returns-then-is_old : goal.returns-then-is_old
 returns-then-is_old c =
     let z = c.args in
-    let file = z.file.now in record {
-      kinds = kinds-test (goal.at.returns-then-is_old c).After-one_over ∙ ap (λ (b : Bool). some (ltb (highest_kind b)) (system_in file z.m).kinds) (sym (old (goal.at.returns-then-is_old c).After-old_words_at-last));
-      thresholds = λ none. sym (old_fits z.m.lines z.m.levels file (old (goal.at.returns-then-is_old c).After-old_words_at-last) (sym (kinds-test (goal.at.returns-then-is_old c).After-one_over) ∙ none));
+    let file = z.file.now in
+    let test = kinds-test (goal.at.returns-then-is_old c).After-one_over in
+    record {
+      kinds = test.1 ∙ ap (λ (b : Bool). some (ltb (highest_kind b)) (system_in file z.m).kinds) (sym test.0);
+      thresholds = λ none. sym (old_fits z.m.lines z.m.levels file test.0 (sym test.1 ∙ none));
     }
-
-pub loop-i-init : goal.loop-i-init
-loop-i-init c = (omega arith, (refl, refl))
 
 -- both answers after a turn
 over_again : (c : Joined-over) →
-    c.if-over.over ≡ some_below (c.loop-i.i + 1) (kind_over (system c))
+    c.if-over.over ≡ some_below (c.loop-i.i + 1) (kind_over (system_in c.args.file.now c.args.m))
 over_again c =
-    let p = kind_over (system c) in
-    ⊎_elim
-    (λ w. found_before p c.loop-i.i c.loop-i.invariant.1.0 w.0.taken w.1)
-    (λ w. found_here p c.loop-i.i c.loop-i.invariant.1.0 w.0.left (w.2 ∙ ap (ltb 2) w.1.ensures))
-    c.if-over.branch
+    let p = kind_over (system_in c.args.file.now c.args.m) in
+    elim c.if-over.branch [
+      | then-over w ↦ found_before p c.loop-i.i c.loop-i.invariant.1.0 w.if-over.true w.over-is
+      | else-over w ↦ found_here p c.loop-i.i c.loop-i.invariant.1.0 w.if-over.false (w.over-is ∙ ap (ltb 2) w.kind.ensures)
+    ]
 
 misfit_again : (c : Joined-misfit) →
-    c.if-misfit.misfit ≡ some_below (c.loop-i.i + 1) (threshold_misfits (system c))
+    c.if-misfit.misfit ≡ some_below (c.loop-i.i + 1) (threshold_misfits (system_in c.args.file.now c.args.m))
 misfit_again c =
-    let p = threshold_misfits (system c) in
-    ⊎_elim
-    (λ w. found_before p c.loop-i.i c.loop-i.invariant.1.1 w.0.taken w.1)
-    (λ w. found_here p c.loop-i.i c.loop-i.invariant.1.1 w.0.left (w.2 ∙ w.1.ensures))
-    c.if-misfit.branch
+    let p = threshold_misfits (system_in c.args.file.now c.args.m) in
+    elim c.if-misfit.branch [
+      | then-misfit w ↦ found_before p c.loop-i.i c.loop-i.invariant.1.1 w.if-misfit.true w.misfit-is
+      | else-misfit w ↦ found_here p c.loop-i.i c.loop-i.invariant.1.1 w.if-misfit.false (w.misfit-is ∙ w.line_misfits-misfit.ensures)
+    ]
 
 pub loop-i-preserved : goal.loop-i-preserved
 loop-i-preserved c = (omega arith, (over_again (goal.at.loop-i-preserved c).Joined-over, misfit_again (goal.at.loop-i-preserved c).Joined-misfit))
 
 pub returns : goal.returns
 returns c =
-    let s = system c in
+    let s = system_in c.args.file.now c.args.m in
     let loop = c.loop-i in
     let all : loop.i ≡ c.args.m.lines = omega arith in
     let new = sym c.is_old.ensures ∙ c.if-is_old.false in

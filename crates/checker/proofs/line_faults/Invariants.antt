@@ -11,7 +11,7 @@ use Rattle.model.specs.Checks.{some_below, threshold_misfits}
 use Rattle.model.specs.Held.{system_in}
 use Rattle.checker.proofs.line_faults.Given as goal
 
-abbrev kind_over : System → ℕ → Bool
+abbrev pub kind_over : System → ℕ → Bool
 kind_over s i = ltb 2 (get_or s.kinds i 0)
 
 abbrev pub invariant-loop-i : goal.invariant-loop-i

@@ -67,22 +67,10 @@ u64_at-w-requires c = omega (arith, word_in (goal.at.u64_at-w-requires c).In-loo
 pub overflow_add-at : goal.overflow_add-at
 overflow_add-at c = omega (arith, word_in (goal.at.overflow_add-at c).In-loop-k)
 
-pub overflow_add-k : goal.overflow_add-k
-overflow_add-k c = omega arith
-
-pub loop-k-smaller : goal.loop-k-smaller
-loop-k-smaller c = omega arith
-
 pub loop-k-preserved : goal.loop-k-preserved
 loop-k-preserved c =
     let within = strayed (goal.at.loop-k-preserved c).After-u64_at-w ∙ ap not (eq-eqb _ _ c.if-w-all.false) in
     (omega arith, more c.loop-k.invariant.1 within _ (omega arith))
-
-pub overflow_add-i : goal.overflow_add-i
-overflow_add-i c = omega arith
-
-pub search-smaller : goal.search-smaller
-search-smaller c = omega arith
 
 pub search-preserved : goal.search-preserved
 search-preserved c = (omega arith, again c.loop-k.invariant.1 _ (omega arith))

@@ -12,10 +12,10 @@ use Rattle.model.proofs.Searches.{NoneBelow}
 use Rattle.checker.proofs.stray_selection.Given as goal
 
 -- j words are passed, none of them strays, and nothing is found
-record Passed (file : List ℕ) (n d at j : ℕ) (stray : Bool) : Type 0 where
-  place : at ≡ words_in file + 8 * j
-  found : stray ≡ false
-  none : NoneBelow j (λ w. strays n (number_at file (words_in file + 8 * w) 8))
+pub record Passed (file : List ℕ) (n d at j : ℕ) (stray : Bool) : Type 0 where
+  pub place : at ≡ words_in file + 8 * j
+  pub found : stray ≡ false
+  pub none : NoneBelow j (λ w. strays n (number_at file (words_in file + 8 * w) 8))
 
 abbrev pub invariant-loop-k : goal.invariant-loop-k
 invariant-loop-k l = (l.k ≤ l.d) × Passed l.file l.n l.d l.at (l.i * l.d + l.k) l.stray

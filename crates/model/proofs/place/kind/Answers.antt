@@ -25,10 +25,10 @@ inside : (c : After-line_bytes) → c.kinds_at.result + c.line_bytes.result * c.
 inside c =  rw (place c) (kind-room c.args.file.now c.args.m c.args.i c.requires.laid_out c.requires.i_lt_lines)
 
 pub overflow_mul-at : goal.overflow_mul-at
-overflow_mul-at c = omega (arith, inside (goal.at.overflow_mul-at c).After-line_bytes, c.well-formed)
+overflow_mul-at c = omega (arith, inside (goal.at.overflow_mul-at c).After-line_bytes)
 
 pub overflow_add-at : goal.overflow_add-at
-overflow_add-at c = omega (arith, inside (goal.at.overflow_add-at c).After-line_bytes, c.well-formed)
+overflow_add-at c = omega (arith, inside (goal.at.overflow_add-at c).After-line_bytes)
 
 pub bounds-file-at : goal.bounds-file-at
 bounds-file-at c = inside (goal.at.bounds-file-at c).After-line_bytes

@@ -9,12 +9,6 @@ use Rattle.model.proofs.Sizes.{strays_mask}
 use Rattle.model.proofs.search.one_strays.Goals as goal
 use Rattle.model.proofs.search.one_strays.Goals.{After-within}
 
-pub loop-i-init : goal.loop-i-init
-loop-i-init c = (omega arith, below_none _)
-
-pub bounds-words-i : goal.bounds-words-i
-bounds-words-i c = omega arith
-
 -- what the test says of the set at the loop's index
 stray : (c : After-within) →
     let start = c.args in
@@ -26,16 +20,10 @@ stray c =
 pub returns-then-not-within : goal.returns-then-not-within
 returns-then-not-within c =
     let start = c.args in
-    sym (some_true (strays start.n) start.words.now _ c.loop-i-test.true (stray (goal.at.returns-then-not-within c).After-within ∙ c.if-not-within.true))
-
-pub overflow_add-i : goal.overflow_add-i
-overflow_add-i c = omega arith
-
-pub loop-i-smaller : goal.loop-i-smaller
-loop-i-smaller c = omega arith
+    sym (some_true (strays start.n) start.words.now _ c.loop-i-test.true (stray (goal.at.returns-then-not-within c).After-within ∙ ap not c.if-not-within.true))
 
 pub loop-i-preserved : goal.loop-i-preserved
-loop-i-preserved c = (omega arith, below_more _ _ c.loop-i.invariant.1 (stray (goal.at.loop-i-preserved c).After-within ∙ c.if-not-within.false))
+loop-i-preserved c = (omega arith, below_more _ _ c.loop-i.invariant.1 (stray (goal.at.loop-i-preserved c).After-within ∙ ap not c.if-not-within.false))
 
 pub returns : goal.returns
 returns c =
