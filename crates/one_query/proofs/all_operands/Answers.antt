@@ -1,4 +1,4 @@
-use mathlib.Core.Bool.{Bool, ◌&&◌}
+use mathlib.Core.Bool.{◌&&◌}
 use mathlib.Core.Path.{◌≡◌, sym, ◌∙◌, ap}
 use Prim.Native.Nat.{ℕ, ◌+◌}
 use native.Mathlib.Omega.{arith}
@@ -31,4 +31,3 @@ loop-k-preserved c = (omega arith, c.loop-k.invariant.1 ∙ step (goal.at.loop-k
 
 pub returns : goal.returns
 returns c = sym (c.loop-k.invariant.1 ∙ ap all (from_end _ _ _ _ _ c.loop-k-test.false))
-

@@ -1,4 +1,4 @@
-use mathlib.Core.Bool.{Bool, not, ◌||◌}
+use mathlib.Core.Bool.{not, ◌||◌}
 use mathlib.Core.Path.{◌≡◌, sym, ◌∙◌, ap}
 use Prim.Native.Nat.{ℕ, ◌+◌}
 use native.Mathlib.Omega.{arith}
@@ -32,4 +32,3 @@ loop-k-preserved c = (omega arith, c.loop-k.invariant.1 ∙ step (goal.at.loop-k
 
 pub returns : goal.returns
 returns c = sym (c.loop-k.invariant.1 ∙ ap any (from_end _ _ _ _ _ c.loop-k-test.false))
-

@@ -51,4 +51,3 @@ pub returns : goal.returns
 returns c =
     let l = c.loop-k in
     sym (l.invariant.2 ∙ ap (λ (bits : List Bool). leb l.need (count_set bits)) (from_end _ _ _ _ _ c.loop-k-test.false) ∙ of_none l.need)
-

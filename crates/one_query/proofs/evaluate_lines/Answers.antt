@@ -49,15 +49,15 @@ overflow_cast-i c = omega (arith, (at_line (goal.at.overflow_cast-i c).In-loop-r
 
 pub kind-requires : goal.kind-requires
 kind-requires c = record {
-      laid_out = c.requires.held.laid_out;
-      i_lt_lines = (at_line (goal.at.kind-requires c).In-loop-rest).line.one;
-    }
+  laid_out = c.requires.held.laid_out;
+  i_lt_lines = (at_line (goal.at.kind-requires c).In-loop-rest).line.one;
+}
 
 pub threshold-requires : goal.threshold-requires
 threshold-requires c = record {
-      laid_out = c.requires.held.laid_out;
-      i_lt_lines = (at_line (goal.at.threshold-requires c).In-loop-rest).line.one;
-    }
+  laid_out = c.requires.held.laid_out;
+  i_lt_lines = (at_line (goal.at.threshold-requires c).In-loop-rest).line.one;
+}
 
 pub overflow_mul-line-in-loop-rest : goal.overflow_mul-line-in-loop-rest
 overflow_mul-line-in-loop-rest c = let l = at_line (goal.at.overflow_mul-line-in-loop-rest c).In-loop-rest in omega (arith, l.begins, l.room, c.well_formed)
@@ -109,4 +109,3 @@ returns c =
     let end : c.loop-rest.rest ≡ 0 = c.loop-rest-test.false in
     found_lines z.m.lines z.lines c.loop-rest.found (value_at z.file.now z.m z.xs.now) c.requires.levels_in_bounds.1
     (found_all _ z.lines c.loop-rest.found (rw end at c.loop-rest.invariant))
-

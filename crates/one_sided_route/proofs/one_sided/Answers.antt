@@ -31,9 +31,9 @@ find_ends-requires c = (c.requires.held.1.few, refl)
 
 pub find_spans-requires : goal.find_spans-requires
 find_spans-requires c = record {
-      held = (c.requires.held.0, record { few = c.requires.held.1.few; starts = c.find_starts.ensures; ends = c.find_ends.ensures });
-      from_len = (refl, refl);
-    }
+  held = (c.requires.held.0, record { few = c.requires.held.1.few; starts = c.find_starts.ensures; ends = c.find_ends.ensures });
+  from_len = (refl, refl);
+}
 
 pub bounds-words-0 : goal.bounds-words-0
 bounds-words-0 c = omega (arith, c.requires.v_in_bounds)
@@ -124,10 +124,10 @@ returns c =
     let e = c.evaluate_queue-others in
     let same = e.auto.words in record {
       result = elim c.if-others-eq0.branch [
-        then-others-eq0 w ↦
-          let ended = running_settled file m v tree l.invariant.0 _ same e.ensures.evaluated _ _ e.ensures.listed w.if-others-eq0.true in record { value = ended.0; queries = ended.1 }
-      | else-others-eq0+then-left-eq0 w ↦
-          let ended = running_spent file m v tree l.invariant.0 _ same e.ensures.evaluated _ _ e.ensures.listed w.if-left-eq0.true in record { value = ended.0; queries = ended.1 }
+        | then-others-eq0 w ↦
+            let ended = running_settled file m v tree l.invariant.0 _ same e.ensures.evaluated _ _ e.ensures.listed w.if-others-eq0.true in record { value = ended.0; queries = ended.1 }
+        | else-others-eq0+then-left-eq0 w ↦
+            let ended = running_spent file m v tree l.invariant.0 _ same e.ensures.evaluated _ _ e.ensures.listed w.if-left-eq0.true in record { value = ended.0; queries = ended.1 }
       ];
       kept = rest_kept file m v tree l.invariant.0 _ same e.ensures.evaluated ∙ drop-set-lt (leaves v + 1) c.args.words.now 0 _ (omega arith);
     }

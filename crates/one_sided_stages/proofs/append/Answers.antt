@@ -21,14 +21,13 @@ loop-i-preserved c =
     let l = c.loop-i in
     appending_more l.invariant (omega arith) (omega arith) c.loop-i-test.true c.if-not-flags-i.flags c.if-not-flags-i.queue c.if-not-flags-i.end
     (elim c.if-not-flags-i.branch [
-      then-not-flags-i w ↦ inl (w.if-not-flags-i.true, w.flags-is, w.queue-is, w.end-is)
-    | else-not-flags-i w ↦ inr (w.if-not-flags-i.false, w.flags-is, w.queue-is, w.end-is)
+      | then-not-flags-i w ↦ inl (w.if-not-flags-i.true, w.flags-is, w.queue-is, w.end-is)
+      | else-not-flags-i w ↦ inr (w.if-not-flags-i.false, w.flags-is, w.queue-is, w.end-is)
     ])
 
 pub returns : goal.returns
 returns c = let l = c.loop-i in record {
-      long = (l.invariant.flags_long, l.invariant.queue_long);
-      queued = l.invariant.queued;
-      flagged = flagging_end l.invariant.flagging (omega arith);
-    }
-
+  long = (l.invariant.flags_long, l.invariant.queue_long);
+  queued = l.invariant.queued;
+  flagged = flagging_end l.invariant.flagging (omega arith);
+}

@@ -108,8 +108,8 @@ loop-p-preserved c =
       omega arith,
       evaluating_more _ _ _ _ _ _ l.invariant.1 c.requires.v_in_bounds.0 (omega (arith, c.requires.held.1.few)) (omega (arith, queued_few q, c.requires.held.1.few)) _ refl (q.inside l.p inside) (q.flagged l.p inside) _ c.right_side-value.ensures c.if-state-i.changed c.if-state-i.others
           (elim c.if-state-i.branch [
-            then-state-i w ↦ inl (w.if-state-i.true, w.changed-is, w.others-is)
-          | else-state-i w ↦ inr (w.if-state-i.false, w.changed-is, w.others-is)
+            | then-state-i w ↦ inl (w.if-state-i.true, w.changed-is, w.others-is)
+            | else-state-i w ↦ inr (w.if-state-i.false, w.changed-is, w.others-is)
           ]),
     )
 
@@ -130,4 +130,3 @@ returns c =
       evaluated = record { due = evaluating_due _ _ _ _ _ _ q e; kept = e.kept; first = e.first; beyond = e.beyond };
       listed = evaluating_listed _ _ _ _ _ _ q e;
     }
-

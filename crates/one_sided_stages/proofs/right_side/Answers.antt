@@ -31,9 +31,9 @@ returns-then-lines-eq0 c =
 
 pub find_arguments-requires : goal.find_arguments-requires
 find_arguments-requires c = record {
-      held = (c.requires.held.0, c.requires.held.1, c.requires.held.2);
-      args_len = refl;
-    }
+  held = (c.requires.held.0, c.requires.held.1, c.requires.held.2);
+  args_len = refl;
+}
 
 pub offset_bounds-state-y : goal.offset_bounds-state-y
 offset_bounds-state-y c =

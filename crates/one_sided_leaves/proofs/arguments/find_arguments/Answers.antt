@@ -38,14 +38,14 @@ loop-k-preserved c =
     let inside : l.k < d = c.loop-k-test.true in
     let few = c.requires.held.0.laid_out.few_levels in
     elim c.if-is_greatest.branch [
-      then-is_greatest w ↦
-        nested_as signs v i d
-        (nested_greatest signs v i d l.invariant inside few w.block_start-start.result w.block_start-start.ensures (sym c.is_greatest.ensures ∙ w.if-is_greatest.true))
-        w.args-is w.start-is w.last-is w.height-is
-    | else-is_greatest w ↦
-        nested_as signs v i d
-        (nested_least signs v i d l.invariant inside few w.block_end-end.result w.block_end-end.ensures (sym c.is_greatest.ensures ∙ w.if-is_greatest.false))
-        w.args-is w.start-is w.last-is w.height-is
+      | then-is_greatest w ↦
+          nested_as signs v i d
+          (nested_greatest signs v i d l.invariant inside few w.block_start-start.result w.block_start-start.ensures (sym c.is_greatest.ensures ∙ w.if-is_greatest.true))
+          w.args-is w.start-is w.last-is w.height-is
+      | else-is_greatest w ↦
+          nested_as signs v i d
+          (nested_least signs v i d l.invariant inside few w.block_end-end.result w.block_end-end.ensures (sym c.is_greatest.ensures ∙ w.if-is_greatest.false))
+          w.args-is w.start-is w.last-is w.height-is
     ]
 
 pub returns : goal.returns
@@ -54,4 +54,3 @@ returns c =
       args_len_2 = l.invariant.long;
       args_after = nested_end (sign (system_in c.args.file.now c.args.m)) c.args.v.now c.args.i c.args.m.levels l.invariant c.requires.held.0.laid_out.few_levels c.loop-k-test.false;
     }
-

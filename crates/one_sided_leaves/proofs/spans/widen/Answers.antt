@@ -90,12 +90,12 @@ loop-k-preserved c =
       c.if-i-from.array_long,
       c.if-to-y.array_long,
       elim c.if-i-from.branch [
-        then-i-from w ↦ moved_as w.from-is (moved_stored Down down_same down_chain args i c.args.from.now l.from l.k l.invariant.3 (omega (arith, w.if-i-from.true)) (omega (arith, p.0, l.invariant.1)))
-      | else-i-from w ↦ moved_as w.from-is (moved_kept Down down_same down_chain args i c.args.from.now l.from l.k l.invariant.3 w.if-i-from.false)
+        | then-i-from w ↦ moved_as w.from-is (moved_stored Down down_same down_chain args i c.args.from.now l.from l.k l.invariant.3 (omega (arith, w.if-i-from.true)) (omega (arith, p.0, l.invariant.1)))
+        | else-i-from w ↦ moved_as w.from-is (moved_kept Down down_same down_chain args i c.args.from.now l.from l.k l.invariant.3 w.if-i-from.false)
       ],
       elim c.if-to-y.branch [
-        then-to-y w ↦ moved_as w.to-is (moved_stored Up up_same up_chain args (i + 1) c.args.to.now l.to l.k l.invariant.4 (omega (arith, w.if-to-y.true)) (omega (arith, p.0, l.invariant.2)))
-      | else-to-y w ↦ moved_as w.to-is (moved_kept Up up_same up_chain args (i + 1) c.args.to.now l.to l.k l.invariant.4 (omega (arith, w.if-to-y.false)))
+        | then-to-y w ↦ moved_as w.to-is (moved_stored Up up_same up_chain args (i + 1) c.args.to.now l.to l.k l.invariant.4 (omega (arith, w.if-to-y.true)) (omega (arith, p.0, l.invariant.2)))
+        | else-to-y w ↦ moved_as w.to-is (moved_kept Up up_same up_chain args (i + 1) c.args.to.now l.to l.k l.invariant.4 (omega (arith, w.if-to-y.false)))
       ],
     )
 
@@ -108,4 +108,3 @@ returns c =
           (subst (Moved Down c.args.args.now c.args.i c.args.from.now l.from) e l.invariant.3)
           (subst (Moved Up c.args.args.now (c.args.i + 1) c.args.to.now l.to) e l.invariant.4);
     }
-
