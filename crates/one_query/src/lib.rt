@@ -1,5 +1,6 @@
 // The set of one query, line by line: no argument stays for a further query, so nothing is carried.
 #![tactic(auto)]
+
 ghost use Rattle.std.specs.Prelude.{◌≡◌, ◌+◌, ◌*◌, ◌^◌, ◌≤◌, ◌<◌, leb, length, take, drop};
 ghost use Rattle.sets.specs.Set.{intersection};
 ghost use Rattle.system.specs.Query as spec;

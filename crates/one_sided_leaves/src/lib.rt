@@ -1,5 +1,6 @@
 // What the equation of each leaf of a lent tree reads (document 001, appendix C), found from the tree's gaps. Definitions: specs/.
 #![tactic(auto)]
+
 mod arguments;
 mod spans;
 

@@ -1,5 +1,6 @@
 // The one-sided route: document 001's asymmetric algorithm over a lent tree, by stages until one changes nothing. Definitions: specs/.
 #![tactic(auto)]
+
 ghost use Rattle.std.specs.Prelude.{◌≡◌, ◌+◌, ◌≤◌, length, drop};
 ghost use Rattle.trees.specs.Tree.{leaves};
 ghost use Rattle.model.specs.Held.{Held, system_in};

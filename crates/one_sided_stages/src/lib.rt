@@ -1,6 +1,7 @@
 // One stage, and what it leaves to the next: the right sides in a queue are evaluated, and where a variable has changed, the leaves of its span are put into
 // the next queue.
 #![tactic(auto)]
+
 ghost use Rattle.std.specs.Prelude.{◌≡◌, ℕ, ◌+◌, ◌≤◌, ◌<◌, length, get_or};
 ghost use Rattle.trees.specs.Tree.{leaves};
 ghost use Rattle.model.specs.Held.{Held};

@@ -1,4 +1,4 @@
-use mathlib.Core.Bool.{Bool, not, ◌||◌}
+use mathlib.Core.Bool.{not, ◌||◌}
 use mathlib.Core.Path.{◌≡◌, sym, ◌∙◌, ap}
 use Prim.Native.Nat.{ℕ, ◌+◌}
 use native.Mathlib.Omega.{arith}
@@ -9,17 +9,13 @@ use Rattle.sets.specs.Set.{intersection}
 use Rattle.system.specs.Query.{any}
 use Rattle.one_query.proofs.Operands.{from, from_start, from_end, any_step}
 use Rattle.one_query.proofs.any_operand.Goals as goal
-use Rattle.one_query.proofs.any_operand.Goals.{After-shared_slice_known-in-loop-k-1, Start}
+use Rattle.one_query.proofs.any_operand.Goals.{After-u64_at}
 
--- the operands from level k + 1 on
-abbrev rest : Start → ℕ → Bool
-rest c k = any (from c.args.file.now c.args.at c.args.d c.args.xs.now k)
-
--- one level's part in them
-step : (c : After-shared_slice_known-in-loop-k-1) →
+-- the operands from this level on are those of its word and those from the next level on
+step : (c : After-u64_at) →
     let k = c.loop-k.k in
-    let x = get_or c.args.xs.now k 0 in
-    rest c k ≡ (not (eqb (intersection c.u64_at.result x) 0) || rest c (k + 1))
+    let rest = λ (j : ℕ). any (from c.args.file.now c.args.at c.args.d c.args.xs.now j) in
+    rest k ≡ (not (eqb (intersection c.u64_at.result (get_or c.args.xs.now k 0)) 0) || rest (k + 1))
 step c =
     let k = c.loop-k.k in
     any_step c.args.file.now c.args.at c.args.d c.args.xs.now k c.loop-k-test.true (omega arith)
@@ -29,11 +25,10 @@ pub loop-k-init : goal.loop-k-init
 loop-k-init c = (omega arith, rw from_start)
 
 pub returns-then-u64_at-xs-ne0 : goal.returns-then-u64_at-xs-ne0
-returns-then-u64_at-xs-ne0 c = sym (c.loop-k.invariant.1 ∙ step (goal.at.returns-then-u64_at-xs-ne0 c).After-shared_slice_known-in-loop-k-1 ∙ rw (ne_eqb _ 0 c.if-u64_at-xs-ne0.true))
+returns-then-u64_at-xs-ne0 c = sym (c.loop-k.invariant.1 ∙ step (goal.at.returns-then-u64_at-xs-ne0 c).After-u64_at ∙ rw (ne_eqb _ 0 c.if-u64_at-xs-ne0.true))
 
 pub loop-k-preserved : goal.loop-k-preserved
-loop-k-preserved c = (omega arith, c.loop-k.invariant.1 ∙ step (goal.at.loop-k-preserved c).After-shared_slice_known-in-loop-k-1 ∙ rw (eq-eqb _ 0 c.if-u64_at-xs-ne0.false))
+loop-k-preserved c = (omega arith, c.loop-k.invariant.1 ∙ step (goal.at.loop-k-preserved c).After-u64_at ∙ rw (eq-eqb _ 0 c.if-u64_at-xs-ne0.false))
 
 pub returns : goal.returns
 returns c = sym (c.loop-k.invariant.1 ∙ ap any (from_end _ _ _ _ _ c.loop-k-test.false))
-

@@ -9,11 +9,7 @@ use Rattle.system.specs.Query.{count_set}
 use Rattle.system.proofs.Masks.{still_needed}
 use Rattle.one_query.proofs.Operands.{from, from_start, from_end, count_step}
 use Rattle.one_query.proofs.enough_operands.Goals as goal
-use Rattle.one_query.proofs.enough_operands.Goals.{After-member_count_at_once-count, Start}
-
--- the operands from level k + 1 on that are set
-abbrev rest : Start → ℕ → ℕ
-rest c k = count_set (from c.args.file.now c.args.at c.args.d c.args.xs.now k)
+use Rattle.one_query.proofs.enough_operands.Goals.{After-member_count_at_once-count}
 
 -- of none, only nothing can be needed
 of_none : (need : ℕ) → leb need 0 ≡ eqb need 0
@@ -26,20 +22,22 @@ of_none need = go (eqb need 0) refl
 pub loop-k-init : goal.loop-k-init
 loop-k-init c = (omega arith, omega arith, rw from_start)
 
--- one level's part in them
+-- the operands set from this level on are those of its word and those from the next level on
 step : (c : After-member_count_at_once-count) →
     let k = c.loop-k.k in
-    rest c k ≡ c.member_count_at_once-count.result + rest c (k + 1)
+    let rest = λ (j : ℕ). count_set (from c.args.file.now c.args.at c.args.d c.args.xs.now j) in
+    rest k ≡ c.member_count_at_once-count.result + rest (k + 1)
 step c =
     let k = c.loop-k.k in
+    let rest = λ (j : ℕ). count_set (from c.args.file.now c.args.at c.args.d c.args.xs.now j) in
     count_step c.args.file.now c.args.at c.args.d c.args.xs.now k c.loop-k-test.true (omega arith)
     c.u64_at.result c.u64_at.ensures (omega arith) (omega (arith, c.type_inv.xs k))
-    ∙ ap (λ (n : ℕ). n + rest c (k + 1)) (sym c.member_count_at_once-count.ensures)
+    ∙ ap (λ (n : ℕ). n + rest (k + 1)) (sym c.member_count_at_once-count.ensures)
 
 pub returns-then-need-count : goal.returns-then-need-count
 returns-then-need-count c =
     let l = c.loop-k in
-    sym (l.invariant.2 ∙ le-leb l.need (rest c l.k) (omega (arith, step (goal.at.returns-then-need-count c).After-member_count_at_once-count, c.if-need-count.true)))
+    sym (l.invariant.2 ∙ le-leb l.need _ (omega (arith, step (goal.at.returns-then-need-count c).After-member_count_at_once-count, c.if-need-count.true)))
 
 pub loop-k-preserved : goal.loop-k-preserved
 loop-k-preserved c =
@@ -53,4 +51,3 @@ pub returns : goal.returns
 returns c =
     let l = c.loop-k in
     sym (l.invariant.2 ∙ ap (λ (bits : List Bool). leb l.need (count_set bits)) (from_end _ _ _ _ _ c.loop-k-test.false) ∙ of_none l.need)
-

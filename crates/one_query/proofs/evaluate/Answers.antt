@@ -31,4 +31,3 @@ returns c =
     let q : ℕ = query (system_in z.file.now z.m) (take z.m.levels z.xs.now) in
     c.evaluate_lines.ensures ∙ ap (λ (x : ℕ). intersection x q) (whole (goal.at.returns c).After-full_set) ∙ and_comm (full z.m.lines) q
     ∙ below_full z.m.lines q (query_below (system_in z.file.now z.m) (take z.m.levels z.xs.now))
-

@@ -49,23 +49,23 @@ overflow_cast-i c = omega (arith, (at_line (goal.at.overflow_cast-i c).In-loop-r
 
 pub kind-requires : goal.kind-requires
 kind-requires c = record {
-      laid_out = c.requires.held.laid_out;
-      i_lt_lines = (at_line (goal.at.kind-requires c).In-loop-rest).line.one;
-    }
+  laid_out = c.requires.held.laid_out;
+  i_lt_lines = (at_line (goal.at.kind-requires c).In-loop-rest).line.one;
+}
 
 pub threshold-requires : goal.threshold-requires
 threshold-requires c = record {
-      laid_out = c.requires.held.laid_out;
-      i_lt_lines = (at_line (goal.at.threshold-requires c).In-loop-rest).line.one;
-    }
+  laid_out = c.requires.held.laid_out;
+  i_lt_lines = (at_line (goal.at.threshold-requires c).In-loop-rest).line.one;
+}
 
 pub overflow_mul-line-in-loop-rest : goal.overflow_mul-line-in-loop-rest
-overflow_mul-line-in-loop-rest c = let l = at_line (goal.at.overflow_mul-line-in-loop-rest c).In-loop-rest in omega (arith, l.begins, l.room, c.well-formed)
+overflow_mul-line-in-loop-rest c = let l = at_line (goal.at.overflow_mul-line-in-loop-rest c).In-loop-rest in omega (arith, l.begins, l.room, c.well_formed)
 
 pub overflow_add-at : goal.overflow_add-at
 overflow_add-at c =
     let l = at_line (goal.at.overflow_add-at c).In-loop-rest in
-    omega (arith, l.begins, l.room, c.words_in-at.ensures, c.well-formed)
+    omega (arith, l.begins, l.room, c.words_in-at.ensures, c.well_formed)
 
 pub line_value-requires : goal.line_value-requires
 line_value-requires c =
@@ -77,10 +77,10 @@ line_value-requires c =
 -- what the call gives is the value of the line
 value : (c : After-line_value) →
     let z = c.args in
-    c.line_value.result ≡ value_at z.file.now z.m z.xs.now (count_trailing_zeros 64 c.loop-rest.rest)
-value c =
+    let t = count_trailing_zeros 64 c.loop-rest.rest in
+    Looked (length z.file.now) z.m.lines z.m.levels (words_in z.file.now) c.loop-rest.rest t → c.line_value.result ≡ value_at z.file.now z.m z.xs.now t
+value c l =
     let z = c.args in
-    let l = at_line c in
     let w = c.words_in-at in
     let t = count_trailing_zeros 64 c.loop-rest.rest in
     let place : w.result + 8 * z.m.levels * t ≡ words_in z.file.now + 8 * (t * z.m.levels) = omega (arith, l.begins, w.ensures) in
@@ -90,13 +90,17 @@ pub loop-rest-smaller-then-line_value : goal.loop-rest-smaller-then-line_value
 loop-rest-smaller-then-line_value c = others_fewer _ c.loop-rest-test.true
 
 pub loop-rest-preserved-then-line_value : goal.loop-rest-preserved-then-line_value
-loop-rest-preserved-then-line_value c = found_more _ _ (at_line (goal.at.loop-rest-preserved-then-line_value c).In-loop-rest).line.low c.loop-rest.invariant (sym (value (goal.at.loop-rest-preserved-then-line_value c).After-line_value) ∙ c.if-line_value.true)
+loop-rest-preserved-then-line_value c =
+    let l = at_line (goal.at.loop-rest-preserved-then-line_value c).In-loop-rest in
+    found_more _ _ l.line.low c.loop-rest.invariant (sym (value (goal.at.loop-rest-preserved-then-line_value c).After-line_value l) ∙ c.if-line_value.true)
 
 pub loop-rest-smaller : goal.loop-rest-smaller
 loop-rest-smaller c = others_fewer _ c.loop-rest-test.true
 
 pub loop-rest-preserved : goal.loop-rest-preserved
-loop-rest-preserved c = found_same _ _ (at_line (goal.at.loop-rest-preserved c).In-loop-rest).line.low c.loop-rest.invariant (sym (value (goal.at.loop-rest-preserved c).After-line_value) ∙ c.if-line_value.false)
+loop-rest-preserved c =
+    let l = at_line (goal.at.loop-rest-preserved c).In-loop-rest in
+    found_same _ _ l.line.low c.loop-rest.invariant (sym (value (goal.at.loop-rest-preserved c).After-line_value l) ∙ c.if-line_value.false)
 
 pub returns : goal.returns
 unfolding query
@@ -105,4 +109,3 @@ returns c =
     let end : c.loop-rest.rest ≡ 0 = c.loop-rest-test.false in
     found_lines z.m.lines z.lines c.loop-rest.found (value_at z.file.now z.m z.xs.now) c.requires.levels_in_bounds.1
     (found_all _ z.lines c.loop-rest.found (rw end at c.loop-rest.invariant))
-

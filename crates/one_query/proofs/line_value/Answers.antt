@@ -12,4 +12,3 @@ returns-then-kind-eq1 c = c.all_operands.ensures ∙ sym (value_all _ _ _ c.if-k
 
 pub returns-else-kind-eq1 : goal.returns-else-kind-eq1
 returns-else-kind-eq1 c = c.enough_operands.ensures ∙ sym (value_vote _ _ _ c.if-kind-eq0.false c.if-kind-eq1.false)
-

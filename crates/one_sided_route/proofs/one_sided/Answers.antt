@@ -1,7 +1,6 @@
 use mathlib.Core.Bool.{false}
-use mathlib.Core.Logic.{⊎_elim}
 use mathlib.Core.Path.{◌≡◌, refl, ◌∙◌, ap}
-use Prim.Native.Nat.{suc, ◌+◌, ◌*◌, ◌-◌, ◌≤◌}
+use Prim.Native.Nat.{ℕ, suc, ◌+◌, ◌*◌, ◌-◌, ◌≤◌}
 use native.Mathlib.Omega.{arith}
 use native.Mathlib.Nat.{mul-le-mul, min-eq_left}
 use lib.ListN.{length, replicate, length-set, get_or-replicate}
@@ -11,13 +10,11 @@ use Rattle.trees.specs.Tree.{leaves}
 use Rattle.one_sided_stages.proofs.Queue.{queued_none}
 use Rattle.one_sided_route.proofs.Running.{running_first, running_grows, running_carried, running_more, running_settled, running_spent, rest_kept, number_few}
 use Rattle.one_sided_route.proofs.one_sided.Goals as goal
-use Rattle.one_sided_route.proofs.one_sided.Goals.{At-loop-m, Start}
+use Rattle.one_sided_route.proofs.one_sided.Goals.{At-loop-m, then-others-eq0, else-others-eq0+then-left-eq0}
 
 -- the stages that are allowed are few
-most : (s : Start) → (length s.args.v.now + 1) * s.args.m.lines ≤ 1024 * 64
-most s =
-    let small : length s.args.v.now + 1 ≤ 1024 = omega (arith, s.requires.0.1.few) in
-    mul-le-mul small s.requires.0.0.laid_out.few_lines
+most : (leaves m : ℕ) → leaves ≤ 1024 → m ≤ 64 → leaves * m ≤ 1024 * 64
+most leaves m few lines = mul-le-mul few lines
 
 -- the words keep their number
 long_words : (c : At-loop-m) → length c.loop-m.words ≡ length c.args.words.now
@@ -34,9 +31,9 @@ find_ends-requires c = (c.requires.held.1.few, refl)
 
 pub find_spans-requires : goal.find_spans-requires
 find_spans-requires c = record {
-      held = (c.requires.held.0, record { few = c.requires.held.1.few; starts = c.find_starts.ensures; ends = c.find_ends.ensures });
-      from_len = (refl, refl);
-    }
+  held = (c.requires.held.0, record { few = c.requires.held.1.few; starts = c.find_starts.ensures; ends = c.find_ends.ensures });
+  from_len = (refl, refl);
+}
 
 pub bounds-words-0 : goal.bounds-words-0
 bounds-words-0 c = omega (arith, c.requires.v_in_bounds)
@@ -49,10 +46,10 @@ append-number-requires c =
     }
 
 pub overflow_mul-left : goal.overflow_mul-left
-overflow_mul-left c = omega (arith, most c)
+overflow_mul-left c = omega (arith, most (length c.args.v.now + 1) c.args.m.lines (omega (arith, c.requires.held.1.few)) c.requires.held.0.laid_out.few_lines)
 
 pub overflow_add-left : goal.overflow_add-left
-overflow_add-left c = omega (arith, most c)
+overflow_add-left c = omega (arith, most (length c.args.v.now + 1) c.args.m.lines (omega (arith, c.requires.held.1.few)) c.requires.held.0.laid_out.few_lines)
 
 pub loop-m-init : goal.loop-m-init
 loop-m-init c =
@@ -87,7 +84,7 @@ take_over-number-requires c =
     let l = c.loop-m in
     let e = c.evaluate_queue-others in
     let few = c.requires.held.1.few in record {
-      v_len_bound = (few, omega (arith, c.requires.v_in_bounds, long_words (goal.at.take_over-number-requires c).At-loop-m, e.auto.1.1.1.1.1.1.1.1.1.0));
+      v_len_bound = (few, omega (arith, c.requires.v_in_bounds, long_words (goal.at.take_over-number-requires c).At-loop-m, e.auto.words));
       state_len = (l.invariant.0.state_long, e.ensures.long.0, l.invariant.0.queue_long);
       listed = (e.ensures.listed, e.ensures.cleared);
       by_index = c.find_spans.ensures.within;
@@ -102,7 +99,7 @@ loop-m-preserved c =
     let e = c.evaluate_queue-others in
     let k = c.take_over-number in
     let more : l.left ≡ suc (l.left - 1) = omega (arith, c.if-left-eq0.false) in (
-      running_more c.args.file.now c.args.m c.args.v.now c.requires.held.1 l.invariant.0 _ e.auto.1.1.1.1.1.1.1.1.1.0 e.ensures.evaluated _ _ e.ensures.listed
+      running_more c.args.file.now c.args.m c.args.v.now c.requires.held.1 l.invariant.0 _ e.auto.words e.ensures.evaluated _ _ e.ensures.listed
           _ _ _ _ _ _ (l.left - 1) more c.if-others-eq0.false k.ensures.long.0 k.ensures.long.1 k.ensures.long.2 k.ensures.taken c.find_spans.ensures
           k.ensures.flagged k.ensures.queued,
       e.ensures.long.1,
@@ -112,10 +109,10 @@ pub offset_bounds-words-leaves : goal.offset_bounds-words-leaves
 offset_bounds-words-leaves c = omega (arith, c.requires.held.1.few)
 
 pub bounds-words-leaves : goal.bounds-words-leaves
-bounds-words-leaves c = omega (arith, c.requires.v_in_bounds, long_words (goal.at.bounds-words-leaves c).At-loop-m, c.evaluate_queue-others.auto.1.1.1.1.1.1.1.1.1.0)
+bounds-words-leaves c = omega (arith, c.requires.v_in_bounds, long_words (goal.at.bounds-words-leaves c).At-loop-m, c.evaluate_queue-others.auto.words)
 
 pub shape_of-words : goal.shape_of-words
-shape_of-words c = c.evaluate_queue-others.auto.1.1.1.1.1.1.1.1.1.0 ∙ long_words (goal.at.shape_of-words c).At-loop-m
+shape_of-words c = c.evaluate_queue-others.auto.words ∙ long_words (goal.at.shape_of-words c).At-loop-m
 
 pub returns : goal.returns
 returns c =
@@ -125,12 +122,12 @@ returns c =
     let tree = c.requires.held.1 in
     let l = c.loop-m in
     let e = c.evaluate_queue-others in
-    let same = e.auto.1.1.1.1.1.1.1.1.1.0 in
-    let ended = ⊎_elim
-    (λ w. running_settled file m v tree l.invariant.0 _ same e.ensures.evaluated _ _ e.ensures.listed w.taken)
-    (λ w. running_spent file m v tree l.invariant.0 _ same e.ensures.evaluated _ _ e.ensures.listed w.1.taken)
-    c.if-others-eq0.branch in record {
-      result = record { value = ended.0; queries = ended.1 };
+    let same = e.auto.words in record {
+      result = elim c.if-others-eq0.branch [
+        | then-others-eq0 w ↦
+            let ended = running_settled file m v tree l.invariant.0 _ same e.ensures.evaluated _ _ e.ensures.listed w.if-others-eq0.true in record { value = ended.0; queries = ended.1 }
+        | else-others-eq0+then-left-eq0 w ↦
+            let ended = running_spent file m v tree l.invariant.0 _ same e.ensures.evaluated _ _ e.ensures.listed w.if-left-eq0.true in record { value = ended.0; queries = ended.1 }
+      ];
       kept = rest_kept file m v tree l.invariant.0 _ same e.ensures.evaluated ∙ drop-set-lt (leaves v + 1) c.args.words.now 0 _ (omega arith);
     }
-

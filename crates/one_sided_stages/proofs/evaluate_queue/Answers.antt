@@ -1,4 +1,4 @@
-use mathlib.Core.Logic.{⊎_elim, inl, inr}
+use mathlib.Core.Logic.{inl, inr}
 use mathlib.Core.Path.{◌≡◌, refl, subst}
 use Prim.Native.Nat.{ℕ, ◌<◌}
 use native.Mathlib.Omega.{arith}
@@ -6,6 +6,7 @@ use Rattle.trees.specs.Tree.{leaves}
 use Rattle.one_sided_stages.specs.Stages.{right_side_at}
 use Rattle.one_sided_stages.proofs.Queue.{queued_few, Evaluating, evaluating_none, evaluating_more, evaluating_cleared, evaluating_due, evaluating_listed}
 use Rattle.one_sided_stages.proofs.evaluate_queue.Goals as goal
+use Rattle.one_sided_stages.proofs.evaluate_queue.Goals.{then-state-i, else-state-i}
 
 pub loop-p-init : goal.loop-p-init
 loop-p-init c =
@@ -102,12 +103,14 @@ overflow_add-p c =
 pub loop-p-preserved : goal.loop-p-preserved
 loop-p-preserved c =
     let l = c.loop-p in
-    let z = c.args in
     let q = c.requires.queued.0 in
-    let inside : l.p < z.number = omega arith in (
+    let inside : l.p < c.args.number = omega arith in (
       omega arith,
       evaluating_more _ _ _ _ _ _ l.invariant.1 c.requires.v_in_bounds.0 (omega (arith, c.requires.held.1.few)) (omega (arith, queued_few q, c.requires.held.1.few)) _ refl (q.inside l.p inside) (q.flagged l.p inside) _ c.right_side-value.ensures c.if-state-i.changed c.if-state-i.others
-          (⊎_elim (λ w. inl (w.0.taken, w.1, w.2)) (λ w. inr (w.0.left, w.1, w.2)) c.if-state-i.branch),
+          (elim c.if-state-i.branch [
+            | then-state-i w ↦ inl (w.if-state-i.true, w.changed-is, w.others-is)
+            | else-state-i w ↦ inr (w.if-state-i.false, w.changed-is, w.others-is)
+          ]),
     )
 
 pub shape_of-words : goal.shape_of-words
@@ -127,4 +130,3 @@ returns c =
       evaluated = record { due = evaluating_due _ _ _ _ _ _ q e; kept = e.kept; first = e.first; beyond = e.beyond };
       listed = evaluating_listed _ _ _ _ _ _ q e;
     }
-

@@ -31,9 +31,9 @@ returns-then-lines-eq0 c =
 
 pub find_arguments-requires : goal.find_arguments-requires
 find_arguments-requires c = record {
-      held = (c.requires.held.0, c.requires.held.1, c.requires.held.2);
-      args_len = refl;
-    }
+  held = (c.requires.held.0, c.requires.held.1, c.requires.held.2);
+  args_len = refl;
+}
 
 pub offset_bounds-state-y : goal.offset_bounds-state-y
 offset_bounds-state-y c =
@@ -77,6 +77,5 @@ returns c =
     let f = query (system_in z.file.now z.m) in
     let g = c.requires.grows z.i (omega (arith, c.requires.held.1)) in
     ap (union part) (c.evaluate_lines.ensures
-    ∙ ap (λ (xs : List ℕ). intersection (intersection bound (bit_xor bound part)) (f xs)) (subst (λ (k : ℕ). take k l.ys ≡ readings z.state.now (take k found.new.1.1.1.1.1.1.0)) all l.invariant.2 ∙ ap (readings z.state.now) found.ensures.args_after))
+    ∙ ap (λ (xs : List ℕ). intersection (intersection bound (bit_xor bound part)) (f xs)) (subst (λ (k : ℕ). take k l.ys ≡ readings z.state.now (take k found.new.args)) all l.invariant.2 ∙ ap (readings z.state.now) found.ensures.args_after))
     ∙ part_and_rest bound part (f (readings z.state.now (arguments_in z.file.now z.m z.v.now z.i))) g.1
-

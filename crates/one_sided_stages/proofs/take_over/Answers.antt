@@ -67,4 +67,3 @@ returns c =
       flagged = taking_flags listed l.invariant.4 (omega arith);
       queued = l.invariant.3;
     }
-

@@ -48,4 +48,3 @@ returns c =
     let l = c.loop-j in
     let z = c.args in
     add-one l.j ∙ sym (l.invariant.2 ∙ last_leaf_end z.l z.v.now l.j c.loop-j-test.false)
-

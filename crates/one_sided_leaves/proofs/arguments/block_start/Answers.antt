@@ -41,4 +41,3 @@ returns c =
     let z = c.args in
     let e : l.j ≡ 0 = omega (arith, c.loop-j-test.false) in
     sym (l.invariant.1 ∙ ap (last_over z.l z.v.now) e ∙ last_over_none z.l z.v.now ∙ sym e)
-

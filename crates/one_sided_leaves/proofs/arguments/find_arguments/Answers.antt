@@ -1,4 +1,3 @@
-use mathlib.Core.Logic.{⊎_elim}
 use mathlib.Core.Path.{sym, ◌∙◌}
 use Prim.Native.Nat.{◌<◌}
 use native.Mathlib.Omega.{arith}
@@ -6,6 +5,7 @@ use Rattle.system.specs.System.{sign}
 use Rattle.model.specs.Held.{system_in}
 use Rattle.one_sided_leaves.proofs.Blocks.{height_within, nested_none, nested_greatest, nested_least, nested_as, nested_end}
 use Rattle.one_sided_leaves.proofs.arguments.find_arguments.Goals as goal
+use Rattle.one_sided_leaves.proofs.arguments.find_arguments.Goals.{then-is_greatest, else-is_greatest}
 
 pub loop-k-init : goal.loop-k-init
 loop-k-init c =
@@ -37,14 +37,16 @@ loop-k-preserved c =
     let d = c.args.m.levels in
     let inside : l.k < d = c.loop-k-test.true in
     let few = c.requires.held.0.laid_out.few_levels in
-    ⊎_elim
-    (λ w. nested_as signs v i d
-    (nested_greatest signs v i d l.invariant inside few w.1.result w.1.ensures (sym c.is_greatest.ensures ∙ w.0.taken))
-    w.2 w.3 w.4 w.5)
-    (λ w. nested_as signs v i d
-    (nested_least signs v i d l.invariant inside few w.1.result w.1.ensures (sym c.is_greatest.ensures ∙ w.0.left))
-    w.2 w.3 w.4 w.5)
-    c.if-is_greatest.branch
+    elim c.if-is_greatest.branch [
+      | then-is_greatest w ↦
+          nested_as signs v i d
+          (nested_greatest signs v i d l.invariant inside few w.block_start-start.result w.block_start-start.ensures (sym c.is_greatest.ensures ∙ w.if-is_greatest.true))
+          w.args-is w.start-is w.last-is w.height-is
+      | else-is_greatest w ↦
+          nested_as signs v i d
+          (nested_least signs v i d l.invariant inside few w.block_end-end.result w.block_end-end.ensures (sym c.is_greatest.ensures ∙ w.if-is_greatest.false))
+          w.args-is w.start-is w.last-is w.height-is
+    ]
 
 pub returns : goal.returns
 returns c =
@@ -52,4 +54,3 @@ returns c =
       args_len_2 = l.invariant.long;
       args_after = nested_end (sign (system_in c.args.file.now c.args.m)) c.args.v.now c.args.i c.args.m.levels l.invariant c.requires.held.0.laid_out.few_levels c.loop-k-test.false;
     }
-

@@ -40,4 +40,3 @@ pub returns : goal.returns
 returns c =
     let l = c.loop-i in
     (λ j h q. l.invariant.2 j (omega (arith, c.loop-i-test.false)) q)
-

@@ -24,4 +24,3 @@ pub returns : goal.returns
 returns c =
     let l = c.loop-i in
     (λ j h. l.invariant.2 j (omega (arith, c.loop-i-test.false)))
-

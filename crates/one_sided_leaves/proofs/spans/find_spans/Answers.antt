@@ -60,4 +60,3 @@ returns c =
     let e : l.i ≡ leaves c.args.v.now = omega (arith, l.invariant.0, c.loop-i-test.false) in
     spanned_all c.args.file.now c.args.m c.args.v.now l.from l.to
     (subst (Spanned c.args.file.now c.args.m c.args.v.now l.from l.to) e l.invariant.4)
-

@@ -1,10 +1,11 @@
 use mathlib.Core.Logic.{⊎_elim}
-use mathlib.Core.Path.{◌≡◌, ◌∙◌, ap, subst}
+use mathlib.Core.Path.{◌≡◌, subst}
 use Prim.Native.Nat.{◌+◌}
 use native.Mathlib.Omega.{arith}
-use lib.ListN.{length, get_or, length-set}
+use lib.ListN.{get_or}
 use Rattle.one_sided_leaves.proofs.Spanned.{Moved, Up, Down, moved_none, moved_kept, moved_stored, moved_as, down_same, down_chain, up_same, up_chain, widened}
 use Rattle.one_sided_leaves.proofs.spans.widen.Goals as goal
+use Rattle.one_sided_leaves.proofs.spans.widen.Goals.{then-i-from, else-i-from, then-to-y, else-to-y}
 
 pub loop-k-init : goal.loop-k-init
 loop-k-init c =
@@ -86,16 +87,16 @@ loop-k-preserved c =
     let args = c.args.args.now in
     let i = c.args.i in (
       omega (arith, c.loop-k-test.true),
-      ⊎_elim (λ w. ap length w.1 ∙ simp length-set l.invariant.1) (λ w. ap length w.1 ∙ l.invariant.1) c.if-i-from.branch,
-      ⊎_elim (λ w. ap length w.1 ∙ simp length-set l.invariant.2) (λ w. ap length w.1 ∙ l.invariant.2) c.if-to-y.branch,
-      ⊎_elim
-          (λ w. moved_as w.1 (moved_stored Down down_same down_chain args i c.args.from.now l.from l.k l.invariant.3 (omega (arith, w.0.taken)) (omega (arith, p.0, l.invariant.1))))
-          (λ w. moved_as w.1 (moved_kept Down down_same down_chain args i c.args.from.now l.from l.k l.invariant.3 w.0.left))
-          c.if-i-from.branch,
-      ⊎_elim
-          (λ w. moved_as w.1 (moved_stored Up up_same up_chain args (i + 1) c.args.to.now l.to l.k l.invariant.4 (omega (arith, w.0.taken)) (omega (arith, p.0, l.invariant.2))))
-          (λ w. moved_as w.1 (moved_kept Up up_same up_chain args (i + 1) c.args.to.now l.to l.k l.invariant.4 (omega (arith, w.0.left))))
-          c.if-to-y.branch,
+      c.if-i-from.array_long,
+      c.if-to-y.array_long,
+      elim c.if-i-from.branch [
+        | then-i-from w ↦ moved_as w.from-is (moved_stored Down down_same down_chain args i c.args.from.now l.from l.k l.invariant.3 (omega (arith, w.if-i-from.true)) (omega (arith, p.0, l.invariant.1)))
+        | else-i-from w ↦ moved_as w.from-is (moved_kept Down down_same down_chain args i c.args.from.now l.from l.k l.invariant.3 w.if-i-from.false)
+      ],
+      elim c.if-to-y.branch [
+        | then-to-y w ↦ moved_as w.to-is (moved_stored Up up_same up_chain args (i + 1) c.args.to.now l.to l.k l.invariant.4 (omega (arith, w.if-to-y.true)) (omega (arith, p.0, l.invariant.2)))
+        | else-to-y w ↦ moved_as w.to-is (moved_kept Up up_same up_chain args (i + 1) c.args.to.now l.to l.k l.invariant.4 (omega (arith, w.if-to-y.false)))
+      ],
     )
 
 pub returns : goal.returns
@@ -107,4 +108,3 @@ returns c =
           (subst (Moved Down c.args.args.now c.args.i c.args.from.now l.from) e l.invariant.3)
           (subst (Moved Up c.args.args.now (c.args.i + 1) c.args.to.now l.to) e l.invariant.4);
     }
-
