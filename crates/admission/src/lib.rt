@@ -1,6 +1,7 @@
 // What judging turns down before it begins: a file that checking refuses, misplaced bounds, a bad lent tree; and the forecast of judging by built-in trees,
 // which its ceiling is held against. Definitions: specs/.
 #![tactic(auto)]
+
 ghost use Rattle.std.specs.Prelude.{◌≡◌, ◌≤◌};
 ghost use Rattle.answers.specs.Check.{unless};
 ghost use Rattle.model.specs.File.{lines_in, levels_in};

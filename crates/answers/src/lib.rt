@@ -1,5 +1,6 @@
 // What the operations answer: the reasons for a refusal, with document 01's number for each.
 #![tactic(auto)]
+
 ghost use Rattle.std.specs.Prelude.{◌≡◌};
 ghost use Rattle.answers.specs.Answer.{number_of};
 

@@ -1,6 +1,7 @@
 // The route over built-in trees. No tree is stored: a child of S(n, h + 1) is S(m, h), and m is found by its place among the children.
 // In each level w and needs are what the arguments of the levels above come to.
 #![tactic(auto)]
+
 ghost use Rattle.std.specs.Prelude.{◌≡◌, true, false, List, [], ℕ, suc, ◌<◌, ◌≤◌, get_or};
 ghost use Rattle.system.specs.System.{sign};
 ghost use Rattle.trees.specs.Built.{built, built_children};

@@ -1,5 +1,6 @@
 // Checking a file: document 01's refusals 1 to 7, and 14 (request W4). Definitions: specs/.
 #![tactic(auto)]
+
 ghost use Rattle.std.specs.Prelude.{false, ◌≡◌, ◌+◌, ◌*◌, ◌≤◌, ◌<◌, ltb, length, drop};
 ghost use Rattle.answers.specs.Check.{first_of, unless};
 ghost use Rattle.system.specs.Query.{operand_count};

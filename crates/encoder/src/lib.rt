@@ -1,5 +1,6 @@
 // The file of a system, put into a lent buffer.
 #![tactic(auto)]
+
 ghost use Rattle.std.specs.Prelude.{◌≡◌, ◌++◌, ◌*◌, ◌≤◌, length, drop};
 ghost use Rattle.system.specs.System.{system_of};
 ghost use Rattle.model.specs.File.{file_length, header_bytes, line_records, encode};

@@ -2,6 +2,7 @@
 // looked at once, and by those lines alone that are still undecided. Beside it stands what each line that is not set still needs: one operand that is
 // set or, for a vote, several. A level below gets it as it is, unless some votes need less by then: only these are counted. Definitions: specs/.
 #![tactic(auto)]
+
 ghost use Rattle.std.specs.Prelude.{◌≡◌, ◌&&◌, List, [], ◌∷◌, ℕ, suc, ◌+◌, ◌*◌, ◌<◌, ◌^◌, ltb};
 ghost use Rattle.sets.specs.Set.{is_member, members, bounded_step};
 ghost use Rattle.system.specs.Query.{query};

@@ -1,5 +1,6 @@
 // The file of two models joined in one (request W6), put into a lent buffer straight from their files, which may be old or new. Definitions: specs/.
 #![tactic(auto)]
+
 ghost use Rattle.std.specs.Prelude.{◌≡◌, ◌++◌, map, ◌+◌, ◌*◌, ◌^◌, ◌≤◌, ◌<◌, length, drop};
 ghost use Rattle.lists.specs.Below.{AllBelow};
 ghost use Rattle.sets.specs.SideBySide.{moved_up};

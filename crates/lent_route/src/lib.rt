@@ -1,5 +1,6 @@
 // The route over lent trees, whose gaps stand in two slices. In each level w and needs are what the arguments of the levels above come to.
 #![tactic(auto)]
+
 ghost use Rattle.std.specs.Prelude.{◌≡◌, true, false, ℕ, suc, ◌<◌, ◌≤◌, List, length, get_or};
 ghost use Rattle.system.specs.System.{sign};
 ghost use Rattle.trees.specs.Tree.{children};

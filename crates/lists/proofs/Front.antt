@@ -47,7 +47,7 @@ pub part_put :
 part_put front new s l part a b e low held wrote =
     let next : a + (b - a) ≡ b = omega arith in
     let behind : drop (b - a) (drop a l) ≡ drop b s =
-        ap (drop (b - a)) (ap (drop a) held ∙ drop_at front (drop a s) a e) ∙ drop-drop (b - a) a s ∙ ap (λ (j : ℕ). drop j s) next in
+    ap (drop (b - a)) (ap (drop a) held ∙ drop_at front (drop a s) a e) ∙ drop-drop (b - a) a s ∙ ap (λ (j : ℕ). drop j s) next in
     ap₂ ◌++◌ (ap (take a) held ∙ take_at front (drop a s) a e) (ap₂ ◌++◌ wrote behind)
     ∙ sym (append_assoc front new (drop b s))
 

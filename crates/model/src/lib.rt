@@ -1,5 +1,6 @@
 // A model's type and limits, the layout of its file and what stands where in it, a level's sign, and searches that several operations share. Definitions: specs/.
 #![tactic(auto)]
+
 mod layout;
 mod place;
 mod search;

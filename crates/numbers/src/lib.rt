@@ -1,5 +1,6 @@
 // Little-endian numbers in bytes, and words of eight bytes each. Definitions: specs/.
 #![tactic(auto)]
+
 ghost use Rattle.std.specs.Prelude.{◌≡◌, ◌++◌, ◌+◌, ◌*◌, ◌≤◌, length, drop};
 ghost use Rattle.numbers.specs.Numbers.{number_at, words_from, bytes_of, word_bytes};
 

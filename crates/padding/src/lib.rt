@@ -1,5 +1,6 @@
 // Blanks, and numbers that they set to the right, put into a lent buffer. Definitions: specs/.
 #![tactic(auto)]
+
 ghost use Rattle.std.specs.Prelude.{◌+◌, ◌^◌, ◌≤◌, ◌<◌, length};
 ghost use Rattle.text.specs.Text.{decimal, Puts};
 ghost use Rattle.padding.specs.Padding.{blanks, set_right};

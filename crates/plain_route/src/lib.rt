@@ -1,5 +1,6 @@
 // The plain route: rounds of each level from its own start, under a ceiling on the queries. Definitions: specs/.
 #![tactic(auto)]
+
 ghost use Rattle.std.specs.Prelude.{◌≡◌, cond, List, ℕ, ◌<◌, ◌≤◌, ◌^◌};
 ghost use Rattle.system.specs.System.{sign};
 ghost use Rattle.model.specs.Held.{Held, system_in};

@@ -1,5 +1,6 @@
 // The search for the positions that can be met by steps, over a table of successors. Definitions: specs/.
 #![tactic(auto)]
+
 ghost use Rattle.std.specs.Prelude.{◌≡◌, ◌≤◌, ◌<◌, ◌^◌, length, get_or};
 ghost use Rattle.reach.specs.Search as spec;
 

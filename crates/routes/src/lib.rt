@@ -1,5 +1,6 @@
 // What the routes share, and the innermost level of both tree routes. Definitions, of every route: specs/.
 #![tactic(auto)]
+
 mod innermost;
 mod shared;
 

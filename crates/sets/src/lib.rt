@@ -1,5 +1,6 @@
 // Sets of up to 64 lines as words: the functions on them. Definitions: specs/.
 #![tactic(auto)]
+
 ghost use Rattle.std.specs.Prelude.{◌≡◌, min};
 ghost use Rattle.sets.specs.Set.{is_member, is_within, full, members};
 

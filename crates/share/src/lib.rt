@@ -1,5 +1,6 @@
 // The share of good lines, in thousandths. Definitions: specs/.
 #![tactic(auto)]
+
 ghost use Rattle.std.specs.Prelude.{◌≡◌};
 ghost use Rattle.share.specs.Share.{share_of};
 

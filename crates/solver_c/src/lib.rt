@@ -1,5 +1,6 @@
 // The operations for C, C++ and Rust to call: each fills six words with its answer (include/solver.h).
 #![tactic(auto)]
+
 ghost use Rattle.std.specs.Prelude.{◌≡◌, length};
 ghost use Rattle.system.specs.System.{system_of};
 ghost use Rattle.reader.specs.Says.{read_answer, ReadLeaves};

@@ -1,5 +1,6 @@
 // Texts and numbers as text, put into a lent buffer. Definitions: specs/.
 #![tactic(auto)]
+
 ghost use Rattle.std.specs.Prelude.{◌≡◌, ◌+◌, ◌≤◌, ◌<◌, length};
 ghost use Rattle.text.specs.Text.{digit, digits, places, hex, decimal, number_line, refused_line, Puts};
 

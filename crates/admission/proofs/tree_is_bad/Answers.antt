@@ -41,4 +41,3 @@ loop-i-preserved c =
 pub returns : goal.returns
 returns c =
     rw (le-ltb 1023 _ c.if-gaps-gt-MAX_GAPS.false, some_false (outside c.args.h) c.args.gaps.now c.loop-i-test.false c.loop-i.invariant.1)
-

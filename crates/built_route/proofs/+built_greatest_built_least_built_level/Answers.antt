@@ -31,10 +31,10 @@ least_asked : (t : ℕ) (c : built_least-After-decide-decision t) (row : List �
     let n = c.child_lines-n.result in
     Lowered s z.below loop.low c.decide-decision.result.lowered z.needs.now row
     → (level_number s z.below n z.q < t)
-        × (
-          (Held z.file.now z.m × ((ys : List ℕ) × Carried s z.below ys loop.low z.b c.decide-decision.result.pending row))
-          × (((0 < z.below) × (z.below ≤ z.m.levels)) × (LineCount n × LineCount z.q))
-        )
+    × (
+    (Held z.file.now z.m × ((ys : List ℕ) × Carried s z.below ys loop.low z.b c.decide-decision.result.pending row))
+    × (((0 < z.below) × (z.below ≤ z.m.levels)) × (LineCount n × LineCount z.q))
+    )
 least_asked t c row made =
     let z = c.args in
     let s = system_in z.file.now z.m in
@@ -79,11 +79,11 @@ least_more t c ys d =
     rw (children_passed z.p (least_of s z.below) loop.i _ c.loop-i-test.true (c.child_lines-n.ensures.child _))
     (least_child s z.below ys z.a z.b _ c.if-lowered-eq0.child _ _ _ (loop.invariant.gives ys d)
     (elim c.if-lowered-eq0.branch [
-      built_least-then-lowered-eq0 w ↦
-        rw w.child-is (w.built_level-child.ensures (loop.low ∷ ys) (least_next z.needs.now _ _ loop.invariant.gives next
-        (lowered_none s z.below loop.low z.needs.now w.if-lowered-eq0.true) ys d))
+      | built_least-then-lowered-eq0 w ↦
+          rw w.child-is (w.built_level-child.ensures (loop.low ∷ ys) (least_next z.needs.now _ _ loop.invariant.gives next
+          (lowered_none s z.below loop.low z.needs.now w.if-lowered-eq0.true) ys d))
       | built_least-else-lowered-eq0 w ↦
-        rw w.child-is (w.built_level-child-else-lowered-eq0.ensures (loop.low ∷ ys) (least_next w.lower_needs-row.result _ _ loop.invariant.gives next w.lower_needs-row.ensures ys d))
+          rw w.child-is (w.built_level-child-else-lowered-eq0.ensures (loop.low ∷ ys) (least_next w.lower_needs-row.result _ _ loop.invariant.gives next w.lower_needs-row.ensures ys d))
     ]))
 
 pub built_least-overflow_add-count : goal.built_least-overflow_add-count
@@ -128,10 +128,10 @@ greatest_asked : (t : ℕ) (c : built_greatest-After-decide-decision t) (row : L
     let n = c.child_lines-n.result in
     Lowered s z.below loop.high c.decide-decision.result.lowered z.needs.now row
     → (level_number s z.below z.p n < t)
-        × (
-          (Held z.file.now z.m × ((ys : List ℕ) × Carried s z.below ys z.a loop.high c.decide-decision.result.pending row))
-          × (((0 < z.below) × (z.below ≤ z.m.levels)) × (LineCount z.p × LineCount n))
-        )
+    × (
+    (Held z.file.now z.m × ((ys : List ℕ) × Carried s z.below ys z.a loop.high c.decide-decision.result.pending row))
+    × (((0 < z.below) × (z.below ≤ z.m.levels)) × (LineCount z.p × LineCount n))
+    )
 greatest_asked t c row made =
     let z = c.args in
     let s = system_in z.file.now z.m in
@@ -176,11 +176,11 @@ greatest_more t c ys d =
     rw (children_passed z.q (greatest_of s z.below) loop.i _ c.loop-i-test.true (c.child_lines-n.ensures.child _))
     (greatest_child s z.below ys z.a z.b _ c.if-lowered-eq0.child _ _ _ (loop.invariant.gives ys d)
     (elim c.if-lowered-eq0.branch [
-      built_greatest-then-lowered-eq0 w ↦
-        rw w.child-is (w.built_level-child.ensures (loop.high ∷ ys) (greatest_next z.needs.now _ _ loop.invariant.gives next
-        (lowered_none s z.below loop.high z.needs.now w.if-lowered-eq0.true) ys d))
+      | built_greatest-then-lowered-eq0 w ↦
+          rw w.child-is (w.built_level-child.ensures (loop.high ∷ ys) (greatest_next z.needs.now _ _ loop.invariant.gives next
+          (lowered_none s z.below loop.high z.needs.now w.if-lowered-eq0.true) ys d))
       | built_greatest-else-lowered-eq0 w ↦
-        rw w.child-is (w.built_level-child-else-lowered-eq0.ensures (loop.high ∷ ys) (greatest_next w.lower_needs-row.result _ _ loop.invariant.gives next w.lower_needs-row.ensures ys d))
+          rw w.child-is (w.built_level-child-else-lowered-eq0.ensures (loop.high ∷ ys) (greatest_next w.lower_needs-row.result _ _ loop.invariant.gives next w.lower_needs-row.ensures ys d))
     ]))
 
 pub built_greatest-overflow_add-count : goal.built_greatest-overflow_add-count

@@ -43,4 +43,3 @@ loop-at-preserved c =
       few = omega (arith, l.invariant.few);
       same = λ h. l.invariant.same h ∙ child_last l.lines h l.at some behind;
     }
-

@@ -64,12 +64,11 @@ kinds-test c =
     let file = z.file.now in
     let old = sym c.is_old.ensures ∙ c.if-is_old.true in
     let within : kinds_at z.m.levels + z.m.lines ≤ length file = omega (arith, old_words c.requires old, c.requires.whole) in
-    let span : c.old_words_at-last.result - c.kinds_at-first.result ≡ z.m.lines = omega (arith, c.old_words_at-last.ensures, c.kinds_at-first.ensures) in
-    (
+    let span : c.old_words_at-last.result - c.kinds_at-first.result ≡ z.m.lines = omega (arith, c.old_words_at-last.ensures, c.kinds_at-first.ensures) in (
       old,
       c.one_over.ensures
-      ∙ ap₂ (λ (k at : ℕ). some (ltb 1) (take k (drop at file))) span c.kinds_at-first.ensures
-      ∙ ap (some (ltb 1)) (old_kinds z.m.lines z.m.levels file old within),
+          ∙ ap₂ (λ (k at : ℕ). some (ltb 1) (take k (drop at file))) span c.kinds_at-first.ensures
+          ∙ ap (some (ltb 1)) (old_kinds z.m.lines z.m.levels file old within),
     )
 
 pub returns-then-is_old : goal.returns-then-is_old
@@ -114,4 +113,3 @@ returns c =
       kinds = loop.invariant.1.0 ∙ over ∙ ap (λ (b : Bool). some (ltb (highest_kind b)) s.kinds) (sym new);
       thresholds = λ none. loop.invariant.1.1 ∙ ap (λ (k : ℕ). some_below k (threshold_misfits s)) all;
     }
-

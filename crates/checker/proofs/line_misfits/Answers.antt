@@ -47,4 +47,3 @@ counted c t =
 pub returns : goal.returns
 returns c =
     c.misfits.ensures ∙ counted (goal.at.returns c).Joined-kind-lt2 _ ∙ ap₂ (λ (k t : ℕ). misfits k t (operands c.args.file.now c.args.m c.args.i)) c.kind-kind.ensures c.threshold.ensures
-

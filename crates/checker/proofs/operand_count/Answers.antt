@@ -27,4 +27,3 @@ returns c =
     let start = c.args in
     let all : c.loop-k.k ≡ start.d = omega arith in
     c.loop-k.invariant.1.1 ∙ ap (λ (k : ℕ). operand_count (words_from k (drop start.at start.file.now))) all
-

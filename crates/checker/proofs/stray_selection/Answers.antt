@@ -92,4 +92,3 @@ returns-then-w-all c =
     let d = start.m.levels in
     sym (some_words (strays n) (n * d) start.file.now (words_in start.file.now)
     ∙ below_true _ (n * d) _ (word_in (goal.at.returns-then-w-all c).In-loop-k) (strayed (goal.at.returns-then-w-all c).After-u64_at-w ∙ ap not (ne_eqb _ _ c.if-w-all.true)))
-

@@ -22,4 +22,3 @@ returns c =
     kinds-at.result words_at.result (file_length n d) (2 * length kinds) (8 * length words)
     (omega (arith, sizes, kinds-at.ensures)) refl (omega (arith, sizes, kinds-at.ensures, words_at.ensures)) (omega (arith, sizes, words_at.ensures)) _ _ _ _
     c.put_header.ensures c.copy_from_slice.ensures.after c.put_lines.ensures c.put_words.ensures
-

@@ -23,4 +23,3 @@ returns c =
     let e₄ = front_part f₃ (bytes_of 4 _) s _ _ 8 4 12 refl refl e₃ c.put_number-4.ensures in
     front_part f₄ (bytes_of 4 _) s _ _ 12 4 16 refl refl e₄ c.put_number-5.ensures
     ∙ ap₂ (λ (k w : ℕ). f₃ ++ bytes_of 4 k ++ bytes_of 4 w ++ drop 16 s) c.kinds_at.ensures c.words_at.ensures
-

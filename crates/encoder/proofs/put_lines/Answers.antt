@@ -27,4 +27,3 @@ returns c =
     let kinds = c.args.kinds.now in
     let all : c.loop-i.i ≡ length kinds = omega arith in
     front_all (λ ks. line_records ks c.args.thresholds.now) kinds c.args.s.now all (ap (λ (n : ℕ). 2 * n) all) c.loop-i.invariant.1
-

@@ -12,4 +12,3 @@ returns c =
     let z = c.args in
     decided_none (system_in z.file.now z.m) z.m.levels _ c.initial_set.ensures
     (c.full_set.ensures ∙ ap full (min-eq_left c.requires.laid_out.few_lines))
-

@@ -33,4 +33,3 @@ returns c =
         still_needs_lem = needs_next s votes z.k z.x z.a z.b z.w z.needs.now room c.requires.k_lt_levels.1 _ _ _ hits.ensures.met hits.ensures.lowered missed.ensures ys d;
       });
     }
-

@@ -11,18 +11,18 @@ use Rattle.evaluator.proofs.initial_needs.Goals as goal
 
 pub is_old-requires : goal.is_old-requires
 is_old-requires c = let laid = c.requires.laid_out in record {
-      lines_bound = (laid.few_lines, laid.few_levels);
-      in_bounds = header_whole laid;
-    }
+  lines_bound = (laid.few_lines, laid.few_levels);
+  in_bounds = header_whole laid;
+}
 
 pub loop-i-init : goal.loop-i-init
 loop-i-init c = record { few = omega arith; long = refl; passed = λ j l. absurd (omega arith) }
 
 pub line_need-requires : goal.line_need-requires
 line_need-requires c = record {
-      held = c.requires;
-      i_lt_lines = c.loop-i-test.true;
-    }
+  held = c.requires;
+  i_lt_lines = c.loop-i-test.true;
+}
 
 pub bounds-needs-i : goal.bounds-needs-i
 bounds-needs-i c =

@@ -27,9 +27,9 @@ kinds_at-first-requires c = c.requires.laid_out.few_levels
 
 pub line_bytes-step-requires : goal.line_bytes-step-requires
 line_bytes-step-requires c = let laid = c.requires.laid_out in record {
-      lines_bound = (laid.few_lines, laid.few_levels);
-      in_bounds = header_whole laid;
-    }
+  lines_bound = (laid.few_lines, laid.few_levels);
+  in_bounds = header_whole laid;
+}
 
 -- at most two bytes a line
 few_bytes : (t : Bool) (n : ℕ) → line_bytes t * n ≤ 2 * n
@@ -115,4 +115,3 @@ returns c =
     c.loop-i.invariant.digits ∙ rw end (div-one _) ∙ set_same_values z.m.lines _ _ (λ i l.
     ap₂ (λ (first step : ℕ). eqb (get_or z.file.now (first + step * i) 0) 1) c.kinds_at-first.ensures c.line_bytes-step.ensures
     ∙ ap (λ (k : ℕ). eqb k 1) (sym (line_kind z.m.lines z.m.levels z.file.now i l)) ∙ kind_one _ _ (c.requires.votes i))
-

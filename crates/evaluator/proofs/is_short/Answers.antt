@@ -7,4 +7,3 @@ use Rattle.evaluator.proofs.is_short.Goals as goal
 
 pub returns : goal.returns
 returns c = ap (λ (n : ℕ). ltb n c.args.need) c.member_count.ensures
-

@@ -10,4 +10,3 @@ words_in-requires c = header_whole c.requires.held.laid_out
 
 pub returns : goal.returns
 returns c = ap (λ (w : ℕ). w + 8 * c.args.k) c.words_in.ensures
-

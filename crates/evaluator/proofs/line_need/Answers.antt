@@ -18,19 +18,18 @@ vote (suc (suc k)) t h = refl
 
 pub kind-requires : goal.kind-requires
 kind-requires c = record {
-      laid_out = c.requires.held.laid_out;
-      i_lt_lines = c.requires.i_lt_lines;
-    }
+  laid_out = c.requires.held.laid_out;
+  i_lt_lines = c.requires.i_lt_lines;
+}
 
 pub returns-then-kind-lt2 : goal.returns-then-kind-lt2
 returns-then-kind-lt2 c = one _ _ (rw c.kind.ensures at c.if-kind-lt2.true)
 
 pub threshold-requires : goal.threshold-requires
 threshold-requires c = record {
-      laid_out = c.requires.held.laid_out;
-      i_lt_lines = c.requires.i_lt_lines;
-    }
+  laid_out = c.requires.held.laid_out;
+  i_lt_lines = c.requires.i_lt_lines;
+}
 
 pub returns : goal.returns
 returns c = c.threshold.ensures ∙ vote _ _ (rw c.kind.ensures at c.if-kind-lt2.false)
-

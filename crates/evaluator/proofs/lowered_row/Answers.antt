@@ -17,9 +17,9 @@ use Rattle.evaluator.proofs.lowered_row.Goals.{After-member_count-count, In-loop
 
 pub level_words-at-requires : goal.level_words-at-requires
 level_words-at-requires c = record {
-      held = c.requires.held;
-      k_lt_levels = c.requires.k_lt_levels.0;
-    }
+  held = c.requires.held;
+  k_lt_levels = c.requires.k_lt_levels.0;
+}
 
 pub loop-rest-init : goal.loop-rest-init
 loop-rest-init c = record { long = c.well_formed.1.1.1.1.1.0.1.0.1; passed = passed_none _ _ _ (λ i. refl) }
@@ -77,11 +77,11 @@ entry c =
     let row = c.loop-rest.row in
     let t = count_trailing_zeros 64 c.loop-rest.rest in
     elim c.if-count-need.branch [
-      then-count-need w ↦ w.row-is
+      | then-count-need w ↦ w.row-is
       | else-count-need w ↦
-        let enough : get_or row t 0 ≤ c.member_count-count.result = w.if-count-need.false in
-        let none : 0 ≡ get_or row t 0 - c.member_count-count.result = omega arith in
-        w.row-is ∙ ap (set row t) none
+          let enough : get_or row t 0 ≤ c.member_count-count.result = w.if-count-need.false in
+          let none : 0 ≡ get_or row t 0 - c.member_count-count.result = omega arith in
+          w.row-is ∙ ap (set row t) none
     ]
 
 -- and the count is that of the line's operands that are set

@@ -24,9 +24,9 @@ all_of need bits = some_of bits && leb need (count_set bits)
 
 pub level_words-at-requires : goal.level_words-at-requires
 level_words-at-requires c = record {
-      held = c.requires.held;
-      k_lt_levels = c.requires.k_lt_levels.0;
-    }
+  held = c.requires.held;
+  k_lt_levels = c.requires.k_lt_levels.0;
+}
 
 pub loop-rest-init : goal.loop-rest-init
 loop-rest-init c = record { some = found_none _ _; part = found_none _ _ }
@@ -94,7 +94,7 @@ one_is : (c : Joined-operands-ne0) →
 one_is c =
     let found = intersection c.u64_at.result c.args.x in
     elim c.if-operands-ne0.branch [
-      then-operands-ne0 w ↦ w.one-is ∙ rw (ne_eqb found 0 w.if-operands-ne0.true)
+      | then-operands-ne0 w ↦ w.one-is ∙ rw (ne_eqb found 0 w.if-operands-ne0.true)
       | else-operands-ne0 w ↦ w.one-is ∙ rw (eq-eqb found 0 w.if-operands-ne0.false)
     ]
 
@@ -177,4 +177,3 @@ returns c =
           ∙ in_lines c.requires.held.laid_out c.requires.k_lt_levels.0 begin refl c.requires.k_lt_levels.1 z.x i (λ t bits. t && all_of (get_or z.needs.now i 0) bits) (λ bs cs. refl));
       lowered = (λ i. lowered i ∙ in_lines c.requires.held.laid_out c.requires.k_lt_levels.0 begin refl c.requires.k_lt_levels.1 z.x i (λ t bits. t && part_of (get_or z.needs.now i 0) bits) (λ bs cs. refl));
     }
-

@@ -16,9 +16,9 @@ use Rattle.evaluator.proofs.selecting.Goals.{After-u64_at, In-loop-rest}
 
 pub level_words-at-requires : goal.level_words-at-requires
 level_words-at-requires c = record {
-      held = c.requires.held;
-      k_lt_levels = c.requires.k_lt_levels.0;
-    }
+  held = c.requires.held;
+  k_lt_levels = c.requires.k_lt_levels.0;
+}
 
 pub loop-rest-init : goal.loop-rest-init
 loop-rest-init c = found_none _ _
@@ -70,4 +70,3 @@ returns c =
     let end : c.loop-rest.rest ≡ 0 = c.loop-rest-test.false in
     (λ i. found_all _ z.lines c.loop-rest.found (rw end at c.loop-rest.invariant) i
     ∙ in_lines c.requires.held.laid_out c.requires.k_lt_levels.0 c.level_words-at.ensures refl c.requires.k_lt_levels.1 z.x i (λ t bits. t && any bits) (λ bs cs. refl))
-

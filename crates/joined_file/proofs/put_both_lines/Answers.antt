@@ -27,4 +27,3 @@ returns c =
     front_part front (line_records other.kinds other.thresholds) s _ _ (2 * m.lines) (2 * k.lines) (2 * (m.lines + k.lines)) written (omega arith)
     c.put_line_records.ensures c.put_line_records-2.ensures
     ∙ ap (λ (r : List ℕ). r ++ drop (2 * (m.lines + k.lines)) s) (sym (records_append one.kinds one.thresholds other.kinds other.thresholds thresholds))
-

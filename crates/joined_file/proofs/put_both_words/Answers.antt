@@ -52,4 +52,3 @@ returns c =
     front_part (word_bytes (map (moved_up 0) words)) (word_bytes moved) s _ _ (8 * n) (8 * (k.lines * k.levels)) all written end
     c.put_moved_words.ensures c.put_moved_words-2.ensures
     ∙ ap (λ (r : List ℕ). r ++ drop all s) (ap (λ (ws : List ℕ). word_bytes ws ++ word_bytes moved) (moved_none words) ∙ sym (word_bytes_append words moved))
-

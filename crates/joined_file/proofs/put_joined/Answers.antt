@@ -38,4 +38,3 @@ returns c =
     (omega (arith, signs, kinds-at.ensures)) (ap (λ (j : ℕ). 2 * j) kinds) (omega (arith, kinds-at.ensures, words_at.ensures)) (omega (arith, words_at.ensures)) _ _ _ _
     c.put_header.ensures (c.copy_from_slice.ensures.after ∙ ap (λ (j : ℕ). take j (drop 16 first)) (omega (arith, kinds-at.ensures)))
     c.put_both_lines.ensures c.put_both_words.ensures
-

@@ -32,4 +32,3 @@ returns c =
     let system = system_in c.args.file.now c.args.m in
     let all : c.loop-i.i ≡ c.args.m.lines = omega arith in
     front_all (λ ks. line_records ks system.thresholds) system.kinds c.args.s.now (all ∙ sym (every_length _ _ _)) (ap (λ (n : ℕ). 2 * n) all) c.loop-i.invariant.1
-

@@ -90,4 +90,3 @@ returns c =
     let end : c.loop-j.at ≡ 8 * count = omega arith in
     front_all word_bytes words c.args.s.now all end c.loop-j.invariant.2
     ∙ ap (λ (at : ℕ). word_bytes (moved file up at count) ++ drop (8 * count) c.args.s.now) c.words_in-first.ensures
-

@@ -50,10 +50,10 @@ least_asked : (t : ℕ) (c : lent_least-After-decide-decision t) (row : List ℕ
     NextChild z.hu z.u.now loop.from c.first_gap-cut.result loop.invariant.passed
     → Lowered s z.below loop.low c.decide-decision.result.lowered z.needs.now row
     → (falling_number z.below child z.v.now < t)
-        × (
-          (Held z.file.now z.m × ((ys : List ℕ) × Carried s z.below ys loop.low z.b c.decide-decision.result.pending row))
-          × (((0 < z.below) × (z.below ≤ z.m.levels)) × (((z.hu - 1 ≡ least_of s z.below) × Lent (z.hu - 1) child) × ((z.hv ≡ greatest_of s z.below) × Lent z.hv z.v.now)))
-        )
+    × (
+    (Held z.file.now z.m × ((ys : List ℕ) × Carried s z.below ys loop.low z.b c.decide-decision.result.pending row))
+    × (((0 < z.below) × (z.below ≤ z.m.levels)) × (((z.hu - 1 ≡ least_of s z.below) × Lent (z.hu - 1) child) × ((z.hv ≡ greatest_of s z.below) × Lent z.hv z.v.now)))
+    )
 least_asked t c row next made =
     let r = c.requires in
     let some = r.held.1 in
@@ -99,11 +99,11 @@ least_more t c ys d =
     let next = c.decide-decision.ensures.next in
     least_child s z.below ys z.a z.b _ c.if-lowered-eq0.child _ _ z.v.now (loop.invariant.gives ys d)
     (elim c.if-lowered-eq0.branch [
-      lent_least-then-lowered-eq0 w ↦
-        rw w.child-is (w.lent_level-child.ensures (loop.low ∷ ys) (least_next z.needs.now _ _ loop.invariant.gives next
-        (lowered_none s z.below loop.low z.needs.now w.if-lowered-eq0.true) ys d))
+      | lent_least-then-lowered-eq0 w ↦
+          rw w.child-is (w.lent_level-child.ensures (loop.low ∷ ys) (least_next z.needs.now _ _ loop.invariant.gives next
+          (lowered_none s z.below loop.low z.needs.now w.if-lowered-eq0.true) ys d))
       | lent_least-else-lowered-eq0 w ↦
-        rw w.child-is (w.lent_level-child-else-lowered-eq0.ensures (loop.low ∷ ys) (least_next w.lower_needs-row.result _ _ loop.invariant.gives next w.lower_needs-row.ensures ys d))
+          rw w.child-is (w.lent_level-child-else-lowered-eq0.ensures (loop.low ∷ ys) (least_next w.lower_needs-row.result _ _ loop.invariant.gives next w.lower_needs-row.ensures ys d))
     ])
 
 pub lent_least-overflow_add-count : goal.lent_least-overflow_add-count
@@ -195,10 +195,10 @@ greatest_asked : (t : ℕ) (c : lent_greatest-After-decide-decision t) (row : Li
     NextChild z.hv z.v.now loop.from c.first_gap-cut.result loop.invariant.passed
     → Lowered s z.below loop.high c.decide-decision.result.lowered z.needs.now row
     → (falling_number z.below z.u.now child < t)
-        × (
-          (Held z.file.now z.m × ((ys : List ℕ) × Carried s z.below ys z.a loop.high c.decide-decision.result.pending row))
-          × (((0 < z.below) × (z.below ≤ z.m.levels)) × (((z.hu ≡ least_of s z.below) × Lent z.hu z.u.now) × ((z.hv - 1 ≡ greatest_of s z.below) × Lent (z.hv - 1) child)))
-        )
+    × (
+    (Held z.file.now z.m × ((ys : List ℕ) × Carried s z.below ys z.a loop.high c.decide-decision.result.pending row))
+    × (((0 < z.below) × (z.below ≤ z.m.levels)) × (((z.hu ≡ least_of s z.below) × Lent z.hu z.u.now) × ((z.hv - 1 ≡ greatest_of s z.below) × Lent (z.hv - 1) child)))
+    )
 greatest_asked t c row next made =
     let r = c.requires in
     let some = r.held.1 in
@@ -244,11 +244,11 @@ greatest_more t c ys d =
     let next = c.decide-decision.ensures.next in
     greatest_child s z.below ys z.a z.b _ c.if-lowered-eq0.child _ _ z.u.now (loop.invariant.gives ys d)
     (elim c.if-lowered-eq0.branch [
-      lent_greatest-then-lowered-eq0 w ↦
-        rw w.child-is (w.lent_level-child.ensures (loop.high ∷ ys) (greatest_next z.needs.now _ _ loop.invariant.gives next
-        (lowered_none s z.below loop.high z.needs.now w.if-lowered-eq0.true) ys d))
+      | lent_greatest-then-lowered-eq0 w ↦
+          rw w.child-is (w.lent_level-child.ensures (loop.high ∷ ys) (greatest_next z.needs.now _ _ loop.invariant.gives next
+          (lowered_none s z.below loop.high z.needs.now w.if-lowered-eq0.true) ys d))
       | lent_greatest-else-lowered-eq0 w ↦
-        rw w.child-is (w.lent_level-child-else-lowered-eq0.ensures (loop.high ∷ ys) (greatest_next w.lower_needs-row.result _ _ loop.invariant.gives next w.lower_needs-row.ensures ys d))
+          rw w.child-is (w.lent_level-child-else-lowered-eq0.ensures (loop.high ∷ ys) (greatest_next w.lower_needs-row.result _ _ loop.invariant.gives next w.lower_needs-row.ensures ys d))
     ])
 
 pub lent_greatest-overflow_add-count : goal.lent_greatest-overflow_add-count

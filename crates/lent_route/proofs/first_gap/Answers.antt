@@ -8,4 +8,3 @@ overflow_cast-gaps c = omega (arith, c.type_inv.gaps c.loop-i.i)
 
 pub loop-i-preserved : goal.loop-i-preserved
 loop-i-preserved c = (search rules, below_more _ _ c.loop-i.invariant.1 c.if-gaps-i.false)
-

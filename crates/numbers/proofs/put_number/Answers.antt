@@ -30,4 +30,3 @@ pub returns : goal.returns
 returns c =
     c.loop-i.invariant.2
     ∙ ap (λ (n : ℕ). bytes_of n c.args.x ++ drop n c.args.s.now) (omega arith)
-

@@ -26,4 +26,3 @@ returns c =
     let all : c.loop-i.i ≡ length words = omega arith in
     let end : c.loop-i.at ≡ 8 * length words = omega arith in
     front_all word_bytes words c.args.s.now all end c.loop-i.invariant.2
-

@@ -27,4 +27,3 @@ pub returns : goal.returns
 returns c =
     let all : c.loop-i.i ≡ c.args.k = omega arith in
     c.loop-i.invariant.1 ∙ ap (λ (n : ℕ). words_from n c.args.s.now ++ drop n c.args.words.now) all
-

@@ -7,4 +7,3 @@ use Rattle.numbers.proofs.u16_at.Goals as goal
 
 pub returns : goal.returns
 returns c = c.two_bytes.ensures ∙ number_two _ c.args.at (omega (arith, c.requires))
-

@@ -7,4 +7,3 @@ use Rattle.numbers.proofs.u32_at.Goals as goal
 pub returns : goal.returns
 returns c =
     omega (arith, number_twice c.args.s.now c.args.at 2 c.requires)
-

@@ -20,4 +20,3 @@ returns c =
     let l = c.loop-i in
     let all : l.i ≡ c.args.count = omega arith in
     rw all at l.invariant.put
-

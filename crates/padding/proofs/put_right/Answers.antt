@@ -34,4 +34,3 @@ returns c =
     let fill = subst (λ (n : ℕ). Puts c.args.at (blanks (k - n)) c.args.out.now c.put_blanks-first.new.out c.put_blanks-first.result) (same ∙ sym (digits_length 10 (places 19 x) x)) c.put_blanks-first.ensures in
     let number = subst (λ (n : ℕ). Puts c.put_blanks-first.result (digits 10 n x) c.put_blanks-first.new.out c.put_digits.new.out c.put_digits.result) same c.put_digits.ensures in
     puts_then (omega (arith, c.requires)) fill number
-

@@ -99,10 +99,10 @@ outcome t c rounds h ys d =
     let more : c.loop-next.rest < rounds = omega (arith, h, c.loop-next.invariant.down) in
     let given = handed s (z.k - 1) x z.a z.b z.w z.needs.now c.decide-decision.result c.decide-decision.ensures.next in
     elim c.if-lowered-eq0.branch [
-      then-lowered-eq0 w ↦
-        w.round-is ∙ w.plain_level-round.ensures rounds more (x ∷ ys) (given z.needs.now (lowered_none s (z.k - 1) x z.needs.now w.if-lowered-eq0.true) ys d)
+      | then-lowered-eq0 w ↦
+          w.round-is ∙ w.plain_level-round.ensures rounds more (x ∷ ys) (given z.needs.now (lowered_none s (z.k - 1) x z.needs.now w.if-lowered-eq0.true) ys d)
       | else-lowered-eq0 w ↦
-        w.round-is ∙ w.plain_level-round-else-lowered-eq0.ensures rounds more (x ∷ ys) (given w.lower_needs-row.result w.lower_needs-row.ensures ys d)
+          w.round-is ∙ w.plain_level-round-else-lowered-eq0.ensures rounds more (x ∷ ys) (given w.lower_needs-row.result w.lower_needs-row.ensures ys d)
     ]
 
 pub returns-in_default : goal.returns-in_default
@@ -139,8 +139,8 @@ loop-next-preserved t c =
     let known = rw (one_less z.k c.requires.k_nonzero.0) at some.1 in
     let more : z.left < suc z.left = omega arith in
     let less = round_less (round_of (suc z.left) z.file.now z.m z.a z.b (z.k - 1) some.0) l.x l.rest
-        (positive (suc z.left) z.file.now z.m z.a z.b (z.k - 1) z.left more some.0 l.x) _ _
-        (sym (outcome t (goal.at.loop-next-preserved t c).Joined-lowered-eq0 (suc z.left) more some.0 known) ∙ c.in-Settled.is) in
+    (positive (suc z.left) z.file.now z.m z.a z.b (z.k - 1) z.left more some.0 l.x) _ _
+    (sym (outcome t (goal.at.loop-next-preserved t c).Joined-lowered-eq0 (suc z.left) more some.0 known) ∙ c.in-Settled.is) in
     record {
       down = omega (arith, less, l.invariant.down);
       ahead = λ rounds h ys d.

@@ -8,4 +8,3 @@ returns-then-is_greatest c = rw (sym c.is_greatest.ensures ∙ c.if-is_greatest.
 
 pub returns-else-is_greatest : goal.returns-else-is_greatest
 returns-else-is_greatest c = rw (sym c.is_greatest.ensures ∙ c.if-is_greatest.false)
-

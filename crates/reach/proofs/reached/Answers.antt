@@ -66,4 +66,3 @@ returns c =
     let l = c.loop-followed in
     let all : l.followed ≡ l.found = c.loop-followed-test.false in
     searched_all _ _ _ _ c.requires.allowed_bound.0 c.requires.allowed_bound.1 l.found (rw all at l.invariant)
-

@@ -17,4 +17,3 @@ overflow_sub-result c = omega (arith, pow_pos c.args.n, pow-lt {i = c.args.n} {j
 pub returns : goal.returns
 returns c =
     rw (min-eq_left {n = c.args.n} {m = 64} (search rules)) (omega (arith, pow-lt {i = c.args.n} {j = 64} (search rules)))
-

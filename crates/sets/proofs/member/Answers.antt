@@ -7,4 +7,3 @@ use Rattle.sets.proofs.member.Goals as goal
 
 pub returns-then-i-ge64 : goal.returns-then-i-ge64
 returns-then-i-ge64 c = sym (member_above 64 c.args.x c.args.i (search rules) (search rules))
-

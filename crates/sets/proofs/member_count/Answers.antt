@@ -22,4 +22,3 @@ overflow_add-result c =
 
 pub returns : goal.returns
 returns c = halves c.args.x
-

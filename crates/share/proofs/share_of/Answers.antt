@@ -43,4 +43,3 @@ pub returns : goal.returns
 returns c =
     let args = c.args in
     only_rounded (omega arith) (next_rounds (1000 * args.good) args.n (omega arith) (omega arith) (λ half. omega arith))
-

@@ -6,4 +6,3 @@ use Rattle.solver_c.proofs.solver_built.Goals as goal
 
 pub returns : goal.returns
 returns c = c.put_judged.ensures ∙ ap six_words c.solve_built.ensures.answer
-

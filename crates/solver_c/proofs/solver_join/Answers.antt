@@ -10,4 +10,3 @@ returns c =
       answer_after = c.put_written.ensures ∙ ap six_words made.answer;
       join_leaves = made.left;
     }
-

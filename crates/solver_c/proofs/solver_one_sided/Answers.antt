@@ -10,4 +10,3 @@ returns c =
       answer_after = c.put_judged.ensures ∙ ap six_words made.answer;
       one_sided_leaves = made.left;
     }
-

@@ -10,4 +10,3 @@ returns c =
       answer_after = c.put_paged.ensures ∙ ap six_words made.answer;
       page_leaves = made.left;
     }
-

@@ -6,4 +6,3 @@ use Rattle.solver_c.proofs.solver_query.Goals as goal
 
 pub returns : goal.returns
 returns c = c.put_queried.ensures ∙ ap six_words c.query.ensures
-

@@ -10,4 +10,3 @@ returns c =
       answer_after = c.put_reading.ensures ∙ ap six_words read.answer;
       read_leaves = read.left;
     }
-

@@ -45,4 +45,3 @@ returns c =
     let one = last l.invariant.more l.rest c.loop-rest-test.false in
     let room = l.invariant.room in
     (omega arith, omega arith)
-

@@ -8,4 +8,3 @@ returns-then-n-lt10 c = rw (lt-ltb _ 10 c.if-n-lt10.true)
 
 pub returns-else-n-lt10 : goal.returns-else-n-lt10
 returns-else-n-lt10 c = rw (le-ltb _ 10 c.if-n-lt10.false)
-

@@ -10,4 +10,3 @@ returns c =
     let put = c.put_digits in
     subst (λ (k : ℕ). Puts c.args.at (digits 10 k c.args.x) c.args.out.now put.new.out put.result) c.decimal_places.ensures.0
     put.ensures
-

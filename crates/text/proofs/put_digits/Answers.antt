@@ -24,4 +24,3 @@ returns c =
       end = ap (λ (n : ℕ). c.args.at + n) (sym (digits_length c.args.base c.args.k c.args.x));
       left = filling_end _ _ _ _ _ c.loop-i.i (omega arith) c.loop-i.invariant;
     }
-

@@ -11,4 +11,3 @@ pub returns : goal.returns
 returns c =
     puts_then (omega (arith, c.requires)) c.put-number.ensures
     (puts_then (omega (arith, c.put-number)) c.put_decimal-end.ensures c.put.ensures)
-

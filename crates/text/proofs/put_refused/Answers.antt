@@ -30,4 +30,3 @@ returns c =
     puts_then (omega (arith, c.requires)) c.put-word.ensures
     (puts_then (omega (arith, c.put-word)) c.put_decimal-behind.ensures
     (rw (counted c.args.count (omega (arith, c.if-count-eq0.false))) at c.put_number_line.ensures))
-

@@ -6,4 +6,3 @@ use Rattle.model.proofs.place.is_old.Goals as goal
 
 pub returns : goal.returns
 returns c = ap₂ eqb c.words_in.ensures c.old_words_at.ensures
-

@@ -11,9 +11,9 @@ use Rattle.model.proofs.place.kind.Goals.{After-line_bytes}
 
 pub line_bytes-requires : goal.line_bytes-requires
 line_bytes-requires c = let pre = c.requires.laid_out in record {
-      lines_bound = (pre.few_lines, pre.few_levels);
-      in_bounds = header_whole pre;
-    }
+  lines_bound = (pre.few_lines, pre.few_levels);
+  in_bounds = header_whole pre;
+}
 
 -- where it stands
 place : (c : After-line_bytes) →
@@ -22,7 +22,7 @@ place : (c : After-line_bytes) →
 place c = ap₂ (λ (at step : ℕ). at + step * c.args.i) c.kinds_at.ensures c.line_bytes.ensures
 
 inside : (c : After-line_bytes) → c.kinds_at.result + c.line_bytes.result * c.args.i < length c.args.file.now
-inside c =  rw (place c) (kind-room c.args.file.now c.args.m c.args.i c.requires.laid_out c.requires.i_lt_lines)
+inside c = rw (place c) (kind-room c.args.file.now c.args.m c.args.i c.requires.laid_out c.requires.i_lt_lines)
 
 pub overflow_mul-at : goal.overflow_mul-at
 overflow_mul-at c = omega (arith, inside (goal.at.overflow_mul-at c).After-line_bytes)
@@ -37,4 +37,3 @@ pub returns : goal.returns
 returns c =
     let z = c.args in
     ap (λ (at : ℕ). get_or z.file.now at 0) (place (goal.at.returns c).After-line_bytes) ∙ sym (line_kind z.m.lines z.m.levels z.file.now z.i c.requires.i_lt_lines)
-

@@ -10,4 +10,3 @@ returns-then-not-is_old c = sym (ap line_bytes (sym c.is_old.ensures ∙ c.if-no
 
 pub returns : goal.returns
 returns c = sym (ap line_bytes (sym c.is_old.ensures ∙ c.if-not-is_old.false))
-

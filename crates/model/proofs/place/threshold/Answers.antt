@@ -12,9 +12,9 @@ use Rattle.model.proofs.place.threshold.Goals.{Else-is_old}
 
 pub is_old-requires : goal.is_old-requires
 is_old-requires c = let pre = c.requires.laid_out in record {
-      lines_bound = (pre.few_lines, pre.few_levels);
-      in_bounds = header_whole pre;
-    }
+  lines_bound = (pre.few_lines, pre.few_levels);
+  in_bounds = header_whole pre;
+}
 
 pub returns-then-is_old : goal.returns-then-is_old
 returns-then-is_old c =
@@ -33,4 +33,3 @@ returns c =
     let z = c.args in
     ap (λ (at : ℕ). get_or z.file.now (at + 1 + 2 * z.i) 0) c.kinds_at.ensures
     ∙ sym (new_threshold z.m.lines z.m.levels z.file.now z.i c.requires.i_lt_lines (new (goal.at.returns c).Else-is_old))
-

@@ -13,4 +13,3 @@ returns-then-t-eq0 c = sym (vote _ _ _ c.if-kind-lt2.false ∙ rw (eq-eqb _ 0 c.
 
 pub returns-else-t-eq0 : goal.returns-else-t-eq0
 returns-else-t-eq0 c = sym (vote _ _ _ c.if-kind-lt2.false ∙ rw (ne_eqb _ 0 c.if-t-eq0.false))
-

@@ -28,4 +28,3 @@ loop-i-preserved c = (omega arith, below_more _ _ c.loop-i.invariant.1 (le-ltb _
 
 pub returns : goal.returns
 returns c = sym (some_false (ltb c.args.highest) c.args.s.now c.loop-i-test.false c.loop-i.invariant.1)
-

@@ -29,4 +29,3 @@ pub returns : goal.returns
 returns c =
     let start = c.args in
     sym (some_false (strays start.n) start.words.now c.loop-i-test.false c.loop-i.invariant.1)
-

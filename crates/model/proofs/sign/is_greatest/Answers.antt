@@ -16,4 +16,3 @@ sign_at file m k h = ap (λ (x : ℕ). eqb x 1) (sym (get_or-take m.levels (drop
 
 pub returns : goal.returns
 returns c = sign_at c.args.file.now c.args.m c.args.k c.requires.k_lt_levels
-

@@ -29,4 +29,3 @@ returns c =
     let l = c.loop-i in
     let all : l.i ≡ c.args.leaves = omega arith in
     (λ v ys d. rw (← all) (l.invariant.1 v ys d))
-

@@ -25,7 +25,7 @@ loop-k-preserved c =
       omega arith,
       elim c.if-not-is_greatest.branch [ then-not-is_greatest w ↦ omega arith | else-not-is_greatest w ↦ omega arith ],
       elim c.if-not-is_greatest.branch [
-        then-not-is_greatest w ↦ w.least-is ∙ ap (λ (n : ℕ). n + 1) so_far ∙ add-one _ ∙ sym (ap (least_of sys) (add-one l.k) ∙ least_at_least (sign sys) l.k (sym told ∙ w.if-not-is_greatest.true))
+        | then-not-is_greatest w ↦ w.least-is ∙ ap (λ (n : ℕ). n + 1) so_far ∙ add-one _ ∙ sym (ap (least_of sys) (add-one l.k) ∙ least_at_least (sign sys) l.k (sym told ∙ w.if-not-is_greatest.true))
         | else-not-is_greatest w ↦ w.least-is ∙ so_far ∙ sym (ap (least_of sys) (add-one l.k) ∙ least_at_greatest (sign sys) l.k (sym told ∙ w.if-not-is_greatest.false))
       ],
     )
@@ -34,4 +34,3 @@ pub returns : goal.returns
 returns c =
     let all : c.loop-k.k ≡ c.args.m.levels = omega arith in
     c.loop-k.invariant.2 ∙ ap (least_of (system_in c.args.file.now c.args.m)) all
-

@@ -12,4 +12,3 @@ overflow_mul-result-3 c = omega (arith, few_words c.requires.0 c.requires.1)
 
 pub overflow_add-result-3 : goal.overflow_add-result-3
 overflow_add-result-3 c = omega (arith, few_words c.requires.0 c.requires.1)
-

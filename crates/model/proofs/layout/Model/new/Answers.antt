@@ -29,4 +29,3 @@ returns c =
       ne_eqb _ _ c.if-levels-eq0.false,
       le-ltb _ _ c.if-levels-gt-MAX_LEVELS.false,
     )
-
