@@ -2,113 +2,134 @@
 // it writes two lines to standard error: the refusal, and which file it is about, or in what the two do not go together.
 // Joining is `joiner`'s, which is proved; here files are only read, handed over and written.
 #![tactic(auto)]
+
 ghost use Rattle.streams.specs.Input.{InputSays};
 
-use libc::STDERR_FILENO;
 use model::{Model, Reading};
+use std::env::{Env, FillError};
+use std::fs;
+use std::rt::Files;
 use streams::{Input, say};
 use writer::Written;
 
 // One byte more than the longest file has is enough to tell that an input is too long.
 const INPUT_SIZE: usize = Model::MAX_FILE + 1;
 
+// The system opens no file by a name of so many bytes or more.
+const NAME_SIZE: usize = 4096;
+
 // Reads the file that argument i names into the buffer. Where it cannot be opened or read, it says so.
-fn read_file(i: usize, buffer: &mut [u8]) -> Input
+fn read_file<R: Env + Files>(rt: &R, i: usize, buffer: &mut [u8], errors: &impl Print) -> Input
     ensures { InputSays result buffer.new }
 {
-    let mut path = io::buffer();
-    let length = os::arg(i, &mut path);
-    let fd = os::open_read(&path[..length]);
-    if fd < 0 {
-        os::fail(&path[..length]);
+    let mut argument = [0u8; NAME_SIZE];
+    let length = match rt.arg(i, &mut argument) {
+        Ok(length) => length,
+        // Of a longer name the front is there, which is too long to be opened as well.
+        Err(_) => NAME_SIZE,
+    };
+    let Ok(name) = str::from_utf8(&argument[..length]) else {
+        say(&argument[..length], errors);
+        say(b": the name is not UTF-8 text\n", errors);
         return Input::Failed;
+    };
+    match fs::open(rt, name) {
+        Ok(mut file) => streams::read_input(&mut file, name, buffer, errors),
+        Err(e) => {
+            streams::say_failed(name, &e, errors);
+            Input::Failed
+        }
     }
-    let read = streams::read_input(fd, &path[..length], buffer);
-    libc::close(fd);
-    read
 }
 
 // Says how many lines or levels the two files have.
-fn say_counts(first: usize, what: &[u8], second: usize) {
-    say(b"both files: ");
-    io::print_decimal(STDERR_FILENO, first as u64);
-    say(what);
-    say(b" in the first, ");
-    io::print_decimal(STDERR_FILENO, second as u64);
-    say(b" in the second\n");
+fn say_counts(first: usize, what: &str, second: usize, errors: &impl Print) {
+    let _ = println!(errors; "both files: {first} {what} in the first, {second} in the second");
 }
 
 // Says the first level whose signs differ, and answers whether there is one.
-fn say_unlike(first: &[u8], second: &[u8]) -> bool {
-    let mut k = 0;
-    while k < first.len() {
-        if k >= second.len() {
-            return false;
-        }
-        if first[k] != second[k] {
-            say(b"both files: level ");
-            io::print_decimal(STDERR_FILENO, k as u64 + 1);
-            if first[k] == 0 {
-                say(b" is least in the first, greatest in the second\n");
+fn say_unlike(first: &[u8], second: &[u8], errors: &impl Print) -> bool {
+    for (k, (a, b)) in first.iter().zip(second).enumerate() {
+        if *a != *b {
+            let (one, other) = if *a == 0 {
+                ("least", "greatest")
             } else {
-                say(b" is greatest in the first, least in the second\n");
-            }
+                ("greatest", "least")
+            };
+            let level = k + 1;
+            let _ = println!(errors;
+                "both files: level {level} is {one} in the first, {other} in the second"
+            );
             return true;
         }
-        k += 1;
     }
     false
 }
 
 // Says what the refusal of two files is about, in the order in which joining looks at them.
-fn say_where(first: &[u8], second: &[u8]) {
+fn say_where(first: &[u8], second: &[u8], errors: &impl Print) {
     let checked = checker::check(first);
     let m = match checked {
         Reading::Accepted(m) => m,
-        Reading::Refused(_) => return say(b"the first file\n"),
+        Reading::Refused(_) => return say(b"the first file\n", errors),
     };
     let checked_second = checker::check(second);
     let k = match checked_second {
         Reading::Accepted(k) => k,
-        Reading::Refused(_) => return say(b"the second file\n"),
+        Reading::Refused(_) => return say(b"the second file\n", errors),
     };
     if m.levels != k.levels {
-        return say_counts(m.levels, b" levels", k.levels);
+        return say_counts(m.levels, "levels", k.levels, errors);
     }
     let signs_at = Model::SIGNS_AT;
     let kinds_at = m.kinds_at();
-    if !say_unlike(&first[signs_at..kinds_at], &second[signs_at..kinds_at]) {
-        say_counts(m.lines, b" lines", k.lines);
+    if !say_unlike(
+        &first[signs_at..kinds_at],
+        &second[signs_at..kinds_at],
+        errors,
+    ) {
+        say_counts(m.lines, "lines", k.lines, errors);
     }
 }
 
 // Joins two files, and writes the joined file, or says why there is none.
-fn join_files(first: &[u8], second: &[u8]) {
+fn join_files(first: &[u8], second: &[u8], output: &impl Print, errors: &impl Print) {
     let mut out = [0u8; Model::MAX_FILE];
     let joined = joiner::join(first, second, &mut out);
     match joined {
-        Written::Length(length) => streams::write_output(&out[..length]),
+        Written::Length(length) => streams::write_output(&out[..length], output, errors),
         Written::Refused(e) => {
             let made = text::put_refused(&mut out, 0, answers::number(e), 0);
-            say(&out[..made]);
-            say_where(first, second);
+            say(&out[..made], errors);
+            say_where(first, second, errors);
         }
     }
 }
 
-fn main() {
-    if os::arg_count() != 3 {
-        return say(b"usage: join FIRST SECOND >OUT\n");
+// Whether the program was given an argument i. With no room for it, one that is there is too long.
+fn has_argument(rt: &impl Env, i: usize) -> bool {
+    !matches!(rt.arg(i, &mut []), Err(FillError::NotPresent))
+}
+
+fn main(rt: HostRuntime) {
+    let errors = rt.stderr();
+    if !has_argument(&rt, 2) || has_argument(&rt, 3) {
+        return say(b"usage: join FIRST SECOND >OUT\n", &errors);
     }
     let mut first = [0u8; INPUT_SIZE];
-    let first_read = read_file(1, &mut first);
+    let first_read = read_file(&rt, 1, &mut first, &errors);
     let Input::Bytes(first_got) = first_read else {
         return;
     };
     let mut second = [0u8; INPUT_SIZE];
-    let second_read = read_file(2, &mut second);
+    let second_read = read_file(&rt, 2, &mut second, &errors);
     let Input::Bytes(second_got) = second_read else {
         return;
     };
-    join_files(&first[..first_got], &second[..second_got]);
+    join_files(
+        &first[..first_got],
+        &second[..second_got],
+        &rt.stdout(),
+        &errors,
+    );
 }

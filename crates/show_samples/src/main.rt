@@ -1,10 +1,11 @@
 // Runs those of document 01's samples that are not proved; the others are the table of the crate `samples`.
 // Its stored output is what document 01 says of them, what requests W3, W4 and W8 say of the shares, the votes and the forecast, and P's bench page.
 #![tactic(auto)]
+
 use answers::Refusal;
-use libc::STDOUT_FILENO;
 use model::{Model, Reading};
 use solver::Judged;
+use std::io;
 use writer::Written;
 
 // Model P's file.
@@ -13,53 +14,49 @@ const P: [u8; 52] = [
     0, 0, 0, 0, 0, 0, 0, 0, 0, 0, 0, 0, 0, 1, 0, 0, 0, 0, 0, 0, 0,
 ];
 
-fn show_number(name: &[u8], number: u64) {
-    io::write_all(STDOUT_FILENO, name);
-    io::print_decimal(STDOUT_FILENO, number);
-    io::write_all(STDOUT_FILENO, b"\n");
+fn show_number(out: &impl Print, name: &str, number: u64) -> io::Result<()> {
+    println!(out; "{name}{number}")
 }
 
-fn show_pair(name: &[u8], first: u64, second: u64) {
-    io::write_all(STDOUT_FILENO, name);
-    io::print_decimal(STDOUT_FILENO, first);
-    show_number(b" ", second);
+fn show_pair(out: &impl Print, name: &str, first: u64, second: u64) -> io::Result<()> {
+    println!(out; "{name}{first} {second}")
 }
 
-fn show_refusal(name: &[u8], e: Refusal) {
-    io::write_all(STDOUT_FILENO, name);
-    show_number(b"refused ", answers::number(e));
+fn show_refusal(out: &impl Print, name: &str, e: Refusal) -> io::Result<()> {
+    let number = answers::number(e);
+    println!(out; "{name}refused {number}")
 }
 
 // A set and its count, or a refusal, with its count if it has one.
-fn show_judged(name: &[u8], j: Judged) {
+fn show_judged(out: &impl Print, name: &str, j: Judged) -> io::Result<()> {
     match j {
-        Judged::Found { set, count } => show_pair(name, set, count),
+        Judged::Found { set, count } => show_pair(out, name, set, count),
         Judged::OverCeiling(forecast) => {
-            io::write_all(STDOUT_FILENO, name);
-            show_pair(b"refused ", answers::number(Refusal::Ceiling), forecast);
+            let number = answers::number(Refusal::Ceiling);
+            println!(out; "{name}refused {number} {forecast}")
         }
-        Judged::Refused(e) => show_refusal(name, e),
+        Judged::Refused(e) => show_refusal(out, name, e),
     }
 }
 
 // The lines and the levels, or a refusal.
-fn show_reading(name: &[u8], r: Reading) {
+fn show_reading(out: &impl Print, name: &str, r: Reading) -> io::Result<()> {
     match r {
-        Reading::Accepted(m) => show_pair(name, m.lines as u64, m.levels as u64),
-        Reading::Refused(e) => show_refusal(name, e),
+        Reading::Accepted(m) => show_pair(out, name, m.lines as u64, m.levels as u64),
+        Reading::Refused(e) => show_refusal(out, name, e),
     }
 }
 
 // A length, or a refusal.
-fn show_written(name: &[u8], w: Written) {
+fn show_written(out: &impl Print, name: &str, w: Written) -> io::Result<()> {
     match w {
-        Written::Length(bytes) => show_number(name, bytes as u64),
-        Written::Refused(e) => show_refusal(name, e),
+        Written::Length(bytes) => show_number(out, name, bytes as u64),
+        Written::Refused(e) => show_refusal(out, name, e),
     }
 }
 
 // A file of 64 lines and 8 levels, then with 65 lines in it, then with 9 levels too.
-fn show_sizes() {
+fn show_sizes(out: &impl Print) -> io::Result<()> {
     let mut file = [0u8; Model::MAX_FILE];
     writer::write(
         64,
@@ -70,11 +67,11 @@ fn show_sizes() {
         &[1u64; 512],
         &mut file,
     );
-    show_reading(b"64 lines, 8 levels: ", checker::check(&file));
+    show_reading(out, "64 lines, 8 levels: ", checker::check(&file))?;
     file[0] = 65;
-    show_reading(b"65 lines: ", checker::check(&file));
+    show_reading(out, "65 lines: ", checker::check(&file))?;
     file[2] = 9;
-    show_reading(b"65 lines, 9 levels: ", checker::check(&file));
+    show_reading(out, "65 lines, 9 levels: ", checker::check(&file))
 }
 
 fn wide(x: u8) -> u64 {
@@ -82,27 +79,34 @@ fn wide(x: u8) -> u64 {
 }
 
 // P read and written: its new file is two bytes longer, and stands for the same model.
-fn show_new_layout() {
+fn show_new_layout(out: &impl Print) -> io::Result<()> {
     let mut signs = [9u8; 2];
     let mut kinds = [9u8; 2];
     let mut thresholds = [9u8; 2];
     let mut words = [9u64; 4];
     let read = reader::read(&P, &mut signs, &mut kinds, &mut thresholds, &mut words);
-    show_reading(b"P: ", read);
-    show_pair(b"P, thresholds: ", wide(thresholds[0]), wide(thresholds[1]));
+    show_reading(out, "P: ", read)?;
+    show_pair(
+        out,
+        "P, thresholds: ",
+        wide(thresholds[0]),
+        wide(thresholds[1]),
+    )?;
     let mut file = [0u8; 54];
     show_written(
-        b"P, new file: ",
+        out,
+        "P, new file: ",
         writer::write(2, 2, &signs, &kinds, &thresholds, &words, &mut file),
-    );
+    )?;
     show_judged(
-        b"P, new file, ceiling 3: ",
+        out,
+        "P, new file, ceiling 3: ",
         solver::solve_plain(&file, 0, 3, 3),
-    );
+    )
 }
 
 // Three pyrometers of which a vote needs so many, two reading hot.
-fn show_votes(name: &[u8], t: u8) {
+fn show_votes(out: &impl Print, name: &str, t: u8) -> io::Result<()> {
     let mut file = [0u8; 90];
     let written = writer::write(
         4,
@@ -114,53 +118,69 @@ fn show_votes(name: &[u8], t: u8) {
         &mut file,
     );
     match written {
-        Written::Length(_) => show_judged(name, solver::solve_built(&file, 0, 15, 16)),
-        Written::Refused(e) => show_refusal(name, e),
+        Written::Length(_) => show_judged(out, name, solver::solve_built(&file, 0, 15, 16)),
+        Written::Refused(e) => show_refusal(out, name, e),
     }
 }
 
 // The bench page of P, three rows.
-fn show_page() {
+fn show_page(out: &impl Print) -> io::Result<()> {
     let mut page = [0u8; 123];
     bench_page::make_page(&P, &mut page);
-    io::write_all(STDOUT_FILENO, &page);
+    out.write_all(&page)
 }
 
-fn main() {
-    show_judged(b"P, ceiling 3: ", solver::solve_plain(&P, 0, 3, 3));
-    show_judged(b"P, ceiling 2: ", solver::solve_plain(&P, 0, 3, 2));
+// Each sample in its turn, until one cannot be written.
+fn show_all(out: &impl Print) -> io::Result<()> {
+    show_judged(out, "P, ceiling 3: ", solver::solve_plain(&P, 0, 3, 3))?;
+    show_judged(out, "P, ceiling 2: ", solver::solve_plain(&P, 0, 3, 2))?;
     show_judged(
-        b"P, A = 1, B = 2, plain: ",
+        out,
+        "P, A = 1, B = 2, plain: ",
         solver::solve_plain(&P, 1, 2, 3),
-    );
+    )?;
     show_judged(
-        b"P, A = 1, B = 2, built-in trees: ",
+        out,
+        "P, A = 1, B = 2, built-in trees: ",
         solver::solve_built(&P, 1, 2, 0),
-    );
+    )?;
     show_judged(
-        b"P, built-in trees, ceiling 4: ",
+        out,
+        "P, built-in trees, ceiling 4: ",
         solver::solve_built(&P, 0, 3, 4),
-    );
+    )?;
     show_judged(
-        b"P, built-in trees, ceiling 3: ",
+        out,
+        "P, built-in trees, ceiling 3: ",
         solver::solve_built(&P, 0, 3, 3),
-    );
-    show_sizes();
-    show_reading(b"51 bytes of P: ", checker::check(&P[..51]));
-    show_reading(b"15 bytes of P: ", checker::check(&P[..15]));
+    )?;
+    show_sizes(out)?;
+    show_reading(out, "51 bytes of P: ", checker::check(&P[..51]))?;
+    show_reading(out, "15 bytes of P: ", checker::check(&P[..15]))?;
     let gaps = [1u8; 1024];
     show_judged(
-        b"P, 1023 gaps: ",
+        out,
+        "P, 1023 gaps: ",
         solver::solve_lent(&P, 0, 3, &gaps[..1023], &[]),
-    );
-    show_judged(b"P, 1024 gaps: ", solver::solve_lent(&P, 0, 3, &gaps, &[]));
-    show_number(b"share of 1 in 16: ", share::share_of(1, 16));
-    show_number(b"share of 3 in 16: ", share::share_of(3, 16));
-    show_new_layout();
-    show_votes(b"votes of none: ", 0);
-    show_votes(b"votes of one: ", 1);
-    show_votes(b"votes of two: ", 2);
-    show_votes(b"votes of three: ", 3);
-    show_votes(b"votes of four: ", 4);
-    show_page();
+    )?;
+    show_judged(
+        out,
+        "P, 1024 gaps: ",
+        solver::solve_lent(&P, 0, 3, &gaps, &[]),
+    )?;
+    show_number(out, "share of 1 in 16: ", share::share_of(1, 16))?;
+    show_number(out, "share of 3 in 16: ", share::share_of(3, 16))?;
+    show_new_layout(out)?;
+    show_votes(out, "votes of none: ", 0)?;
+    show_votes(out, "votes of one: ", 1)?;
+    show_votes(out, "votes of two: ", 2)?;
+    show_votes(out, "votes of three: ", 3)?;
+    show_votes(out, "votes of four: ", 4)?;
+    show_page(out)
+}
+
+fn main(rt: HostRuntime) {
+    if let Err(e) = show_all(&rt.stdout()) {
+        streams::say_failed("standard output", &e, &rt.stderr());
+    }
 }

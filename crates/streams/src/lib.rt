@@ -1,9 +1,12 @@
 // What the programs share: an input is read whole and an output written whole, or standard error is told which could not be, and why.
-// The programs have no exit status, so this is how whoever runs them learns of it. What is read and written is tested; no contract can say it.
+// The programs end with status 0 in any case, so this is how whoever runs them learns of it. Which bytes a file or a standard stream
+// gives or takes is tested; no contract can say it. `errors` is standard error throughout.
 #![tactic(auto)]
-ghost use Rattle.streams.specs.Input.{InputSays};
 
-use libc::{STDERR_FILENO, STDOUT_FILENO};
+ghost use Rattle.streams.specs.Input.{InputIsOf, InputSays};
+
+use std::io;
+use std::io::{Cursor, Read, Write};
 
 // What came of reading an input.
 #[derive(Clone, Copy)]
@@ -15,33 +18,51 @@ pub enum Input {
 }
 
 // Reads an input until it ends or the buffer is full. Where a read fails, it says so under the input's name.
-pub fn read_input(fd: i32, name: &[u8], buffer: &mut [u8]) -> Input
-    ensures { InputSays result buffer.new }
+pub fn read_input<R: Read>(
+    input: &mut R,
+    name: &str,
+    buffer: &mut [u8],
+    errors: &impl Print,
+) -> Input
+    ensures says { InputSays result buffer.new }
+    ensures bytes { InputIsOf result buffer.new (R.remaining input.old) (R.remaining input.new) }
 {
     let mut done = 0;
     while done < buffer.len() {
-        let got = libc::read(fd, &mut buffer[done..]);
-        if got < 0 {
-            os::fail(name);
-            return Input::Failed;
+        match input.read(&mut buffer[done..]) {
+            Ok(0) => return Input::Bytes(done),
+            Ok(more) => done += more,
+            Err(e) => {
+                say_failed(name, &e, errors);
+                return Input::Failed;
+            }
         }
-        let more = io::count(got, &buffer[done..]);
-        if more == 0 {
-            return Input::Bytes(done);
-        }
-        done += more;
     }
     Input::Bytes(done)
 }
 
 // Writes all of an output to standard output, or says that it could not.
-pub fn write_output(output: &[u8]) {
-    if !io::write_all(STDOUT_FILENO, output) {
-        os::fail(b"standard output");
+pub fn write_output(output: &[u8], to: &impl Print, errors: &impl Print) {
+    if let Err(e) = to.write_all(output) {
+        say_failed("standard output", &e, errors);
     }
 }
 
 // Writes a text to standard error. Where that fails there is nowhere left to say so.
-pub fn say(text: &[u8]) {
-    io::write_all(STDERR_FILENO, text);
+pub fn say(text: &[u8], errors: &impl Print) {
+    let _ = errors.write_all(text);
+}
+
+// Says what could not be read or written, and why, in the system's words alone: `io::Error` prints the error's number behind them.
+pub fn say_failed(name: &str, error: &io::Error, errors: &impl Print) {
+    let mut text = Cursor::new([0u8; 256]);
+    // Words that do not fit are cut off.
+    let _ = write!(text, "{error}");
+    let length = (text.position() as usize).min(text.get_ref().len());
+    let words = str::from_utf8(&text.get_ref()[..length]).unwrap_or("");
+    let reason = match words.split_once(" (os error ") {
+        Some((reason, _)) => reason,
+        None => words,
+    };
+    let _ = println!(errors; "{name}: {reason}");
 }
