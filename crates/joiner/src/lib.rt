@@ -1,5 +1,6 @@
 // Joining two models' files in one, in a lent buffer (request W6). Definitions: specs/.
 #![tactic(auto)]
+
 ghost use Rattle.std.specs.Prelude.{◌≡◌, length};
 ghost use Rattle.model.specs.Checks.{some_below};
 ghost use Rattle.joiner.specs.Says.{differ_at, JoinSays};

@@ -21,4 +21,3 @@ loop-i-preserved c = (omega arith, below_more _ _ c.loop-i.invariant.1 (ap not (
 pub returns : goal.returns
 returns c =
     sym (below_false (differ_at c.args.a.now c.args.b.now) (length c.args.a.now) c.loop-i-test.false c.loop-i.invariant.1)
-
