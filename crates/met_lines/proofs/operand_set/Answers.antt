@@ -1,6 +1,6 @@
 use mathlib.Core.Path.{◌≡◌, ◌∙◌, ap₂}
 use Prim.Native.Nat.{suc, ◌+◌, ◌-◌, ◌*◌}
-use native.Mathlib.Nat.{add-zero, sub-zero, sub_self}
+use native.Mathlib.Nat.{sub_self}
 use native.Mathlib.Omega.{arith}
 use lib.Seq.{drop-drop}
 use Rattle.sets.specs.Set.{union}
@@ -11,20 +11,6 @@ use Rattle.met_lines.proofs.operand_set.Goals as goal
 pub loop-k-init : goal.loop-k-init
 unfolding words_from union_of
 loop-k-init c = record { few = omega arith; so_far = rw (sub_self c.args.d) }
-
-pub overflow_mul-k : goal.overflow_mul-k
-overflow_mul-k c = omega (arith, c.loop-k.invariant.few, c.requires.0)
-
-pub overflow_add-at : goal.overflow_add-at
-overflow_add-at c = omega (arith, c.loop-k.invariant.few, c.requires.1, c.well-formed)
-
-pub u64_at-set-requires : goal.u64_at-set-requires
-u64_at-set-requires c =
-    let some = c.loop-k-test.true in
-    omega (arith, c.loop-k.invariant.few, c.requires.1)
-
-pub loop-k-smaller : goal.loop-k-smaller
-loop-k-smaller c = let some = c.loop-k-test.true in omega arith
 
 -- one word more in front
 pub loop-k-preserved : goal.loop-k-preserved
@@ -39,10 +25,4 @@ loop-k-preserved c =
       few = omega (arith, l.invariant.few);
       so_far = ap₂ union c.u64_at-set.ensures l.invariant.so_far ∙ rw (more, drop-drop 8 (z.at + 8 * (l.k - 1)) z.file.now, further);
     }
-
-pub returns : goal.returns
-returns c =
-    let z = c.args in
-    let end : c.loop-k.k ≡ 0 = c.loop-k-test.false in
-    rw (end, sub-zero z.d, add-zero z.at) at c.loop-k.invariant.so_far
 

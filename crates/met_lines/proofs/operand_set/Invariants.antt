@@ -8,9 +8,9 @@ use Rattle.numbers.specs.Numbers.{words_from}
 use Rattle.met_lines.specs.MetLines.{union_of}
 use Rattle.met_lines.proofs.operand_set.Given as goal
 
-record Passed (file : List ℕ) (at d set k : ℕ) : Type 0 where
-  few : k ≤ d
-  so_far : set ≡ union_of (words_from (d - k) (drop (at + 8 * k) file))
+pub record Passed (file : List ℕ) (at d set k : ℕ) : Type 0 where
+  pub few : k ≤ d
+  pub so_far : set ≡ union_of (words_from (d - k) (drop (at + 8 * k) file))
 
 abbrev pub invariant-loop-k : goal.invariant-loop-k
 invariant-loop-k l = Passed l.file l.at l.d l.set l.k
