@@ -1,6 +1,6 @@
 /* Writes the file of a small model, reads it back, judges it in each of the four ways, makes its bench page, and joins it with itself.
  *
- *   rt staticlib solver_c
+ *   tools/build.py solver_c
  *   cc -std=c99 -I include examples/judge_p.c target/staticlib/libsolver_c.a -o target/judge_p && target/judge_p
  *   c++ -std=c++11 -I include -x c++ examples/judge_p.c -x none target/staticlib/libsolver_c.a -o target/judge_p && target/judge_p
  */

@@ -46,7 +46,7 @@ class Model(NamedTuple):
 def _call(operation: str, function: str, codes: str, *values: Any) -> _Answer:
     """Lends bytes (B), words (Q), numbers (n) and an upper bound (b); the answer has also what was lent and made."""
     if _LIBRARY is None:
-        raise FileNotFoundError(f"{_PATH} is missing; make it by: rt staticlib solver_c && {_MAKE}")
+        raise FileNotFoundError(f"{_PATH} is missing; make it by: tools/build.py solver_c && {_MAKE}")
     # An array turns down numbers that ctypes would cut. It has an entry more than is lent, so that no pointer is null.
     lent = [value if code in "nb" else array(code, [*value, 0]) for code, value in zip(codes, values)]
     words, arguments = array("Q", bytes(8 * 6)), array("Q")

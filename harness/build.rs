@@ -11,7 +11,7 @@ fn main() {
     println!("cargo:rerun-if-changed=build.rs");
     println!("cargo:rerun-if-changed={}", library.display());
     if !library.is_file() {
-        panic!("target/staticlib/libsolver_c.a is missing: run `rt staticlib solver_c` first");
+        panic!("target/staticlib/libsolver_c.a is missing: run `tools/build.py solver_c` first");
     }
     println!("cargo:rustc-link-search=native={}", folder.display());
     println!("cargo:rustc-link-lib=static=solver_c");

@@ -14,8 +14,8 @@ folder=$(mktemp -d)
 trap 'rm -rf "$folder"' EXIT
 git clone --quiet . "$folder/repository"
 git -C "$folder/repository" checkout --quiet "$commit"
-(cd "$folder/repository" && rt staticlib solver_c) >&2
-rt staticlib solver_c >&2
+(cd "$folder/repository" && tools/build.py solver_c) >&2
+tools/build.py solver_c >&2
 
 # Every function that it exports gets another name, so that both libraries can be linked.
 nm --defined-only --extern-only "$folder/repository/target/staticlib/libsolver_c.a" |

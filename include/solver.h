@@ -1,4 +1,4 @@
-/* The operations for C, C++ and Rust to call, on x86-64 Linux: libsolver_c.a, made by `rt staticlib solver_c`, or the shared library of docs/MANUAL.md.
+/* The operations for C, C++ and Rust to call, on x86-64 Linux: libsolver_c.a, made by `tools/build.py solver_c`, or the shared library of docs/MANUAL.md.
  *
  * A slice is a pointer and then its length in elements. The caller sees to it that, in every call,
  *   - no pointer is null, not even that of a slice of length 0;

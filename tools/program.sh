@@ -59,12 +59,12 @@ say_refusal() { # WHAT NUMBER OPERATION [DETAIL]
 }
 
 # Why the program has to be built; nothing where it is newer than its sources. A folder is newer where a file in it has come or gone; edits that must
-# fail are no sources.
+# fail are no sources, nor is what the prover keeps in out/, which makes a crate's own folder newer.
 why_stale() {
     if [ ! -x "$program" ]; then
         echo "it is missing"
     else
-        (cd "$root" && find crates.txt crates -name must-fail -prune -o -newer "$program" -print -quit | sed 's/$/ is newer/')
+        (cd "$root" && find crates.txt crates \( -name must-fail -o -name out \) -prune -o ! \( -path 'crates/*' ! -path 'crates/*/*' \) -newer "$program" -print -quit | sed 's/$/ is newer/')
     fi
 }
 
@@ -83,7 +83,7 @@ count_crates() {
         END { visit(wanted); print count + 0 }' "$root/crates.txt"
 }
 
-# Shows which crate was proved last, from what `rt` says: on a terminal in one line that is written anew, elsewhere in a line each.
+# Shows which crate was proved last, from what tools/build.py says: on a terminal in one line that is written anew, elsewhere in a line each.
 show_progress() {
     local line of proved=0 crate shown=
     of=$(count_crates)
@@ -129,11 +129,9 @@ make_ready() {
 prove_and_build() { # WHY
     local log=target/log/$script
     say "$script: proving and building the program, since $1; from nothing this takes some minutes"
-    # Where `rt` has a stamp it builds nothing, though the program was removed.
-    [ -x "$program" ] || rm -f "$root/target/stamp/$name"
     # The program counts as old as this moment: what changes while it is built is newer.
     touch "$root/$log.began"
-    if ! (cd "$root" && (trap - PIPE XFSZ && exec rt check "$name") 2>&1 </dev/null 9>&- | tee "$log" | show_progress); then
+    if ! (cd "$root" && (trap - PIPE XFSZ && exec tools/build.py "$name") 2>&1 </dev/null 9>&- | tee "$log" | show_progress); then
         say "$script: $(grep '^rt: ' "$root/$log" | tail -n 1)"
         fail 3 "the program could not be proved and built, so it is not run: $log has what the prover said"
     fi

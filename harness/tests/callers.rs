@@ -63,7 +63,7 @@ fn the_example_is_a_program_in_cpp_too() {
 fn the_commands_in_the_example_are_right() {
     let example = text("examples/judge_p.c");
     let commands = example.lines().filter_map(|line| line.strip_prefix(" *   "));
-    let commands: Vec<&str> = commands.skip_while(|&command| command != "rt staticlib solver_c").collect();
+    let commands: Vec<&str> = commands.skip_while(|&command| command != "tools/build.py solver_c").collect();
     let [_, in_c, in_cpp] = commands[..] else { panic!("there are three: {commands:?}") };
     assert!(in_c.starts_with("cc -std=c99 ") && in_cpp.starts_with("c++ -std=c++11 "), "{commands:?}");
     for (command, program) in [(in_c, "judge_p_in_c"), (in_cpp, "judge_p_in_cpp")] {
@@ -784,7 +784,7 @@ fn the_burner_is_written_by_the_module() {
 fn where_the_library_is_missing_its_commands_are_said() {
     let missing = temporary("nowhere.so");
     let said = format!(
-        "{} is missing; make it by: rt staticlib solver_c && {}",
+        "{} is missing; make it by: tools/build.py solver_c && {}",
         missing.display(),
         library_command()
     );

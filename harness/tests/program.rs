@@ -26,7 +26,7 @@ fn written(name: &str, pieces: &[&[u8]], pause: Duration) -> String {
         .stdin(Stdio::piped())
         .stdout(Stdio::piped())
         .spawn()
-        .unwrap_or_else(|_| panic!("target/bin/{name} is missing: run `rt check {name}` first"));
+        .unwrap_or_else(|_| panic!("target/bin/{name} is missing: run `tools/build.py {name}` first"));
     let mut input = program.stdin.take().expect("it is piped");
     for piece in pieces {
         // A program that has read enough may have ended.
@@ -436,7 +436,7 @@ fn assert_joins(paths: &[String; 2], file: &[u8], says: &str) {
     let output = Command::new(root("target/bin/join"))
         .args(paths)
         .output()
-        .expect("target/bin/join is missing: run `rt check join` first");
+        .expect("target/bin/join is missing: run `tools/build.py join` first");
     assert!(output.status.success());
     assert_eq!(String::from_utf8_lossy(&output.stderr), says);
     assert_eq!(output.stdout, file);

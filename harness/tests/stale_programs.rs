@@ -1,5 +1,5 @@
 //! `judge.sh`, `page.sh` and `join.sh` run no program that is older than its sources, and show that proving goes on. Each is copied to a folder of its
-//! own, where a script stands for `rt`: what it builds prints "new", and the program that is there beforehand prints "old".
+//! own, where a script stands for tools/build.py: what it builds prints "new", and the program that is there beforehand prints "old".
 
 use std::fs::{self, File, Permissions};
 use std::io::Read;
@@ -37,7 +37,7 @@ fn set_age(path: &Path, seconds: i64) {
 }
 
 impl Copy {
-    /// A program newer than all of its sources, and an `rt` that builds another one.
+    /// A program newer than all of its sources, and a build.py that builds another one; an `rt` is on the PATH.
     fn new(program: &'static str, name: &str) -> Copy {
         let folder = Path::new(env!("CARGO_TARGET_TMPDIR")).join(format!("{program}_{name}"));
         let _ = fs::remove_dir_all(&folder);
@@ -54,10 +54,11 @@ impl Copy {
         fs::write(folder.join("a.model"), "").expect("it is written");
         let built = format!("target/bin/{program}");
         write_script(&folder.join(&built), "#!/bin/sh\necho old\n");
+        write_script(&folder.join("bin/rt"), "#!/bin/sh\nexit 9\n");
         write_script(
-            &folder.join("bin/rt"),
+            &folder.join("tools/build.py"),
             &format!(
-                "#!/bin/sh\n[ \"$*\" = 'check {program}' ] || exit 9\nprintf '#!/bin/sh\\necho new\\n' >{built}\nchmod +x {built}\n"
+                "#!/bin/sh\n[ \"$*\" = '{program}' ] || exit 9\nprintf '#!/bin/sh\\necho new\\n' >{built}\nchmod +x {built}\n"
             ),
         );
         let copy = Copy { folder, program };
@@ -70,10 +71,10 @@ impl Copy {
         copy
     }
 
-    /// A program older than crates.txt, and an `rt` that runs these commands.
-    fn stale(program: &'static str, name: &str, rt: &str) -> Copy {
+    /// A program older than crates.txt, and a build.py that runs these commands.
+    fn stale(program: &'static str, name: &str, build: &str) -> Copy {
         let copy = Copy::new(program, name);
-        write_script(&copy.folder.join("bin/rt"), &format!("#!/bin/sh\n{rt}\n"));
+        write_script(&copy.folder.join("tools/build.py"), &format!("#!/bin/sh\n{build}\n"));
         copy.age("crates.txt", 10);
         copy
     }
@@ -160,9 +161,9 @@ fn a_newer_source_has_it_built_again_once() {
     }
 }
 
-/// `rt` leaves a program as it is where the newer file is none of its own; that, too, is asked once.
+/// A program may be left as it is where the newer file is none of its own; that, too, is asked once.
 #[test]
-fn a_program_that_rt_leaves_is_as_new_as_the_check() {
+fn a_program_that_is_left_is_as_new_as_the_check() {
     for program in PROGRAMS {
         let copy = Copy::stale(program, "left", "exit 0");
         copy.prints("old", "since crates.txt is newer");
@@ -174,8 +175,8 @@ fn a_program_that_rt_leaves_is_as_new_as_the_check() {
 #[test]
 fn a_source_changed_meanwhile_has_it_built_again() {
     for program in PROGRAMS {
-        let rt = format!("sleep 0.05; touch crates.txt; sleep 0.05; touch target/bin/{program}");
-        let copy = Copy::stale(program, "meanwhile", &rt);
+        let build = format!("sleep 0.05; touch crates.txt; sleep 0.05; touch target/bin/{program}");
+        let copy = Copy::stale(program, "meanwhile", &build);
         copy.prints("old", "since crates.txt is newer");
         copy.prints("old", "since crates.txt is newer");
     }
@@ -184,8 +185,8 @@ fn a_source_changed_meanwhile_has_it_built_again() {
 #[test]
 fn a_program_that_is_not_proved_is_not_run() {
     for program in PROGRAMS {
-        let rt = "echo 'rt: a proved (1 s)'; echo 'a hole' >&2; echo 'rt: b NOT PROVED (exit 1, 0 s)'; echo 'rt: FAILED: b'; exit 1";
-        let copy = Copy::stale(program, "not_proved", rt);
+        let build = "echo 'rt: a proved (1 s)'; echo 'a hole' >&2; echo 'rt: b NOT PROVED (exit 1, 0 s)'; echo 'rt: FAILED: b'; exit 1";
+        let copy = Copy::stale(program, "not_proved", build);
         let output = copy.run();
         assert_eq!(output.status.code(), Some(3));
         assert!(output.stdout.is_empty());
@@ -201,14 +202,11 @@ fn a_program_that_is_not_proved_is_not_run() {
     }
 }
 
-/// `rt` builds nothing where it has a stamp of its own. A program that was removed all the same is built again.
+/// A program that was removed is built again.
 #[test]
 fn a_removed_program_is_built_again() {
     for program in PROGRAMS {
-        let stamp = format!("target/stamp/{program}");
-        let rt = format!("[ -e {stamp} ] && exit 0\n{}\ntouch {stamp}", proving(program));
-        let copy = Copy::stale(program, "removed", &rt);
-        fs::create_dir(copy.path("target/stamp")).expect("it is made");
+        let copy = Copy::stale(program, "removed", &proving(program));
         copy.prints("new", "since crates.txt is newer");
         fs::remove_file(copy.path(&format!("target/bin/{program}"))).expect("it is there");
         copy.prints("new", "since it is missing");
@@ -241,7 +239,7 @@ fn a_newer_edit_that_must_fail_has_nothing_built() {
 
 // ---- the first run ----
 
-/// What `rt` prints while it proves the four crates of a program, and builds it.
+/// What build.py prints while it proves the four crates of a program, and builds it.
 fn proving(program: &str) -> String {
     let crates: String = ["a", "b", "c", program]
         .map(|name| {
@@ -292,7 +290,7 @@ fn on_a_terminal_the_count_is_one_line() {
     }
 }
 
-/// What a run reads from standard input is not taken from it by `rt`.
+/// What a run reads from standard input is not taken from it by the prover.
 #[test]
 fn the_prover_reads_nothing_of_standard_input() {
     let copy = Copy::stale("judge", "stdin", "cat >taken; touch target/bin/judge");
@@ -313,8 +311,8 @@ fn runs_at_one_time_prove_once() {
     for program in PROGRAMS {
         // For ten seconds at the most.
         let wait = "n=0; until [ \"$(cat said.* | grep -c waiting)\" = 2 ] || [ $((n += 1)) = 500 ]; do sleep 0.02; done";
-        let rt = format!("echo >>runs\n{wait}\n{}", proving(program));
-        let copy = Copy::stale(program, "at_one_time", &rt);
+        let build = format!("echo >>runs\n{wait}\n{}", proving(program));
+        let copy = Copy::stale(program, "at_one_time", &build);
         let runs = [0, 1, 2].map(|run| {
             let said = File::create(copy.path(&format!("said.{run}"))).expect("it is made");
             copy.script().stdout(Stdio::piped()).stderr(said).spawn().expect("it runs")
