@@ -1,5 +1,6 @@
 // The bench page of a system with its good lines, put into a buffer. Definitions: specs/.
 #![tactic(auto)]
+
 ghost use Rattle.std.specs.Prelude.{[], ◌∷◌, ◌++◌, ◌+◌, ◌-◌, ◌*◌, ◌≤◌, ◌<◌, length, get_or};
 ghost use Rattle.sets.specs.Set.{is_member};
 ghost use Rattle.model.specs.Held.{LaidOut, system_in};

@@ -14,4 +14,3 @@ put-requires c =
 pub returns : goal.returns
 returns c =
     puts_then (omega (arith, c.requires)) c.put_blanks-end.ensures c.put.ensures
-

@@ -21,4 +21,3 @@ returns-then-kind-eq1 c = rw c.if-kind-eq1.true c.put-then-kind-eq1.ensures
 pub returns-else-kind-eq1 : goal.returns-else-kind-eq1
 returns-else-kind-eq1 c =
     rw (vote_word _ c.if-kind-eq0.false c.if-kind-eq1.false) c.put-else-kind-eq1.ensures
-

@@ -14,9 +14,9 @@ loop-i-init c = record { few = search rules; long = refl; place = omega arith; p
 
 pub kind-requires : goal.kind-requires
 kind-requires c = record {
-      laid_out = c.requires.laid_out;
-      i_lt_lines = c.loop-i-test.true;
-    }
+  laid_out = c.requires.laid_out;
+  i_lt_lines = c.loop-i-test.true;
+}
 
 pub put_line_row-next-requires : goal.put_line_row-next-requires
 put_line_row-next-requires c =
@@ -43,4 +43,3 @@ pub returns : goal.returns
 returns c =
     let all : c.loop-i.i ≡ c.args.m.lines = omega arith in
     rw all at c.loop-i.invariant.put
-

@@ -12,14 +12,14 @@ use Rattle.page_layout.specs.Page.{line_row, rows_of}
 use Rattle.page_layout.proofs.put_line_rows.Given as goal
 
 -- the row of line i
-abbrev row_at : List ℕ → Model → ℕ → ℕ → List ℕ
+abbrev pub row_at : List ℕ → Model → ℕ → ℕ → List ℕ
 row_at file m good i = line_row i (get_or (system_in file m).kinds i 0) (is_member good i)
 
-record Rowing (file : List ℕ) (m : Model) (good : ℕ) (out₀ : List ℕ) (at : ℕ) (out : List ℕ) (next i : ℕ) : Type 0 where
-  few : i ≤ m.lines
-  long : length out ≡ length out₀
-  place : next ≡ at + 41 * i
-  put : Puts at (rows_of i (row_at file m good)) out₀ out next
+pub record Rowing (file : List ℕ) (m : Model) (good : ℕ) (out₀ : List ℕ) (at : ℕ) (out : List ℕ) (next i : ℕ) : Type 0 where
+  pub few : i ≤ m.lines
+  pub long : length out ≡ length out₀
+  pub place : next ≡ at + 41 * i
+  pub put : Puts at (rows_of i (row_at file m good)) out₀ out next
 
 abbrev pub invariant-loop-i : goal.invariant-loop-i
 invariant-loop-i l = Rowing l.file l.m l.good l.initial.out l.at l.out l.next l.i

@@ -7,4 +7,3 @@ returns-then-good c = rw c.if-good.true c.put.ensures
 
 pub returns-else-good : goal.returns-else-good
 returns-else-good c = rw c.if-good.false c.put-else-good.ensures
-
