@@ -3,7 +3,7 @@
 use mathlib.Core.List.{List, [], ◌∷◌, ◌++◌}
 use mathlib.Core.Path.{◌≡◌, refl, sym, ◌∙◌, ap, ap₂, subst}
 use Prim.Native.Nat.{ℕ, zero, suc, ◌+◌, ◌-◌, ◌*◌, ◌/◌, ◌%◌, ◌^◌, ◌≤◌, ◌<◌}
-use native.Mathlib.Nat.{pow-zero, pow-suc, pow-succ', one-mul, zero-div, zero-mod, mul_assoc, mul-div_cancel, mul-mod_left, mod-lt, div-lt_iff_lt-mul, div-add-mod'}
+use native.Mathlib.Nat.{pow-zero, pow-suc, pow-succ', zero-div, zero-mod, mul_assoc, mul-div_cancel, mul-mod_left, mod-lt, div-lt_iff_lt-mul, div-add-mod'}
 use native.Mathlib.Omega.{arith}
 use lib.ListN.{length, get_or, set, take, drop}
 use Rattle.std.proofs.lemmas.List.{append-nil, append_assoc, take-append-drop}
@@ -126,7 +126,7 @@ module _ (h m i : ℕ) (t₀ : List ℕ) where
         let next : get_or t j 0 + 1 ≡ suc (suc (c.q % h)) = omega (arith, gap) in
         let places : m ≡ suc j + (m - suc j) = omega (arith, c.room) in
         let all : digit_gaps h m (suc i) ≡ digit_gaps h (suc j) (suc c.q) ++ digit_gaps h (m - suc j) 0 =
-            ap₂ (digit_gaps h) places c.whole ∙ shifted h (suc j) (m - suc j) (suc c.q) base in
+        ap₂ (digit_gaps h) places c.whole ∙ shifted h (suc j) (m - suc j) (suc c.q) base in
         write (get_or t j 0 + 1)
         ∙ ap (λ (x : ℕ). front ++ (x ∷ rest)) next
         ∙ sym (append_assoc front (suc (suc (c.q % h)) ∷ []) rest)

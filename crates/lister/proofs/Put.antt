@@ -4,8 +4,8 @@ use mathlib.Core.List.{List, ◌++◌}
 use mathlib.Core.Path.{◌≡◌, refl, sym, ◌∙◌, ap, ap₂, subst}
 use Prim.Native.Nat.{ℕ, zero, suc, ◌+◌, ◌-◌, ◌*◌, ◌/◌, ◌%◌, ◌^◌, ◌≤◌, ◌<◌}
 use native.Mathlib.Omega.{arith}
-use lib.ListN.{length, get_or, set, take}
-use Rattle.std.proofs.lemmas.List.Edits.{paste_all, length-paste}
+use lib.ListN.{length, get_or, take}
+use Rattle.std.proofs.lemmas.List.Edits.{paste_all}
 use Rattle.std.proofs.lemmas.Nat.{mul-add-lt, div-mul-add, mod-mul-add}
 use Rattle.std.proofs.Math.Seq.{paste, paste-zero, paste-suc, take-append_seam}
 use Rattle.text.specs.Text.{pasted}
@@ -31,8 +31,8 @@ module _ (h m i : ℕ) (out₀ out : List ℕ) (inside : i < h ^ m) (room : h ^ 
       let lt : k < m = omega arith in
       let place : i * m + k < h ^ m * m = omega (arith, mul-add-lt i m k (h ^ m) inside lt) in
       let value : get_or gaps k 0 ≡ suc ((i * m + k) / m / h ^ (m - 1 - (i * m + k) % m) % h) =
-          digit_at h m i k lt
-          ∙ ap₂ (λ (q r : ℕ). suc (q / h ^ (m - 1 - r) % h)) (sym (div-mul-add i m k lt)) (sym (mod-mul-add i m k lt)) in
+      digit_at h m i k lt
+      ∙ ap₂ (λ (q r : ℕ). suc (q / h ^ (m - 1 - r) % h)) (sym (div-mul-add i m k lt)) (sym (mod-mul-add i m k lt)) in
       let more : suc (i * m + k) ≡ i * m + suc k = omega arith in
       subst (λ (n : ℕ). Written h m out₀ n (paste out (i * m) gaps (suc k))) more
       (subst (λ (l : List ℕ). Written h m out₀ (suc (i * m + k)) l) (paste-suc out (i * m) gaps k 0 (omega arith) (omega (arith, digits_length h m i)))
@@ -43,6 +43,6 @@ module _ (h m i : ℕ) (out₀ out : List ℕ) (inside : i < h ^ m) (room : h ^ 
   put_one at text out' ea et eo =
       let all : i * m + m ≡ (i + 1) * m = omega arith in
       let whole : paste out (i * m) gaps m ≡ out' =
-          ap (paste out (i * m) gaps) (sym (digits_length h m i)) ∙ paste_all out (i * m) gaps (length gaps) refl
-          ∙ ap₂ (λ (n : ℕ) (l : List ℕ). pasted n l out) (sym ea) (sym et) ∙ sym eo in
+      ap (paste out (i * m) gaps) (sym (digits_length h m i)) ∙ paste_all out (i * m) gaps (length gaps) refl
+      ∙ ap₂ (λ (n : ℕ) (l : List ℕ). pasted n l out) (sym ea) (sym et) ∙ sym eo in
       subst (λ (n : ℕ). Written h m out₀ n out') all (subst (λ (l : List ℕ). Written h m out₀ (i * m + m) l) whole (so_far m (omega arith)))

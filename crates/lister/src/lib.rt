@@ -1,6 +1,7 @@
 // The trees of a height and a number of leaves, one after another in dictionary order, and listed in a lent buffer (request W10). Definitions: specs/, and
 // crates/listing/specs.
 #![tactic(auto)]
+
 ghost use Rattle.std.specs.Prelude.{◌++◌, ◌≡◌, ℕ, suc, ◌*◌, ◌^◌, ◌≤◌, ◌<◌, length, take, drop};
 ghost use Rattle.listing.specs.Listed.{listed_bytes};
 ghost use Rattle.listing.specs.Digits.{digit_gaps};

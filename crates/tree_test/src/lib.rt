@@ -1,5 +1,6 @@
 // Whether a tree is universal, by the trees with exactly as many leaves, and the first of them that does not fit (request W10). Definitions: crates/listing/specs.
 #![tactic(auto)]
+
 ghost use Rattle.std.specs.Prelude.{true, not, ◌≡◌, ◌+◌, ◌-◌, ◌≤◌, length, take};
 ghost use Rattle.trees.specs.Tree.{IsTree};
 ghost use Rattle.listing.specs.Tested.{is_universal, first_misfit};

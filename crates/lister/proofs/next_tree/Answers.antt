@@ -15,12 +15,12 @@ returns-then-g-top c = λ i b e.
 
 pub loop-j-preserved : goal.loop-j-preserved
 loop-j-preserved c = (
-      omega (arith, c.loop-j.invariant.0),
-      λ i b e.
-          let k = c.loop-j.j - 1 in
-          let next : c.loop-j.j ≡ suc k = omega (arith, c.loop-j-test.true) in
-          carry_more c.args.h c.args.m i c.args.t.now k c.loop-j.t (carry_at c.args.h c.args.m i c.args.t.now k next (c.loop-j.invariant.1 i b e)) c.if-g-top.false,
-    )
+  omega (arith, c.loop-j.invariant.0),
+  λ i b e.
+      let k = c.loop-j.j - 1 in
+      let next : c.loop-j.j ≡ suc k = omega (arith, c.loop-j-test.true) in
+      carry_more c.args.h c.args.m i c.args.t.now k c.loop-j.t (carry_at c.args.h c.args.m i c.args.t.now k next (c.loop-j.invariant.1 i b e)) c.if-g-top.false,
+)
 
 pub returns : goal.returns
 returns c = λ i b e.

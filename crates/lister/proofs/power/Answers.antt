@@ -29,4 +29,3 @@ returns c =
     let all : c.loop-j.j ≡ c.args.m = omega arith in
     let is : c.loop-j.p ≡ c.args.h ^ c.args.m = c.loop-j.invariant.1 ∙ ap (λ (j : ℕ). c.args.h ^ j) all in
     (is, omega (arith, is, few c.args.h c.args.m c.requires.0 c.requires.1))
-

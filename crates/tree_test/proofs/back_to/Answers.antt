@@ -30,4 +30,3 @@ returns c =
     let l = c.loop-j in
     let none : l.j ≡ 0 = omega (arith, c.loop-j-test.false) in
     (sym (sym l.invariant.1 ∙ ap (back c.args.t.now c.args.x) none ∙ back_first c.args.t.now c.args.x), omega arith)
-

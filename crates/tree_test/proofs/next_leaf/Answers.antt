@@ -26,4 +26,3 @@ returns c =
     let here : c.args.i < length c.args.t.now = omega (arith, c.requires, c.if-i-t.false) in
     let larger : get_or c.args.t.now c.args.i 0 < c.args.x = omega (arith, c.if-x-g.false, c.if-x-g-2.false) in
     (c.back_to.ensures.0 ∙ sym (step_back c.args.t.now c.args.x c.args.i here larger), omega (arith, c.back_to.ensures.1))
-

@@ -34,4 +34,3 @@ returns c =
     let all : l.k ≡ length c.args.u.now = omega arith in
     ap (λ (n : ℕ). eqb n (length c.args.t.now))
     (l.invariant.2 ∙ ap (λ (n : ℕ). scan c.args.t.now 0 (take n c.args.u.now)) all ∙ scan_all c.args.t.now c.args.u.now)
-
