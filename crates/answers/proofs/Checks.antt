@@ -11,7 +11,7 @@ use borrow.Author.Tests.{ltb-false, le-ltb, eqb-true, eqb-false, eq-eqb, ne_eqb,
 use Rattle.answers.specs.Answer.{Answer, refusal, number_of}
 use Rattle.answers.specs.Check.{Check, first_of, unless, outside}
 use Rattle.answers.specs.declared.Refusal.{Refusal}
-use Rattle.answers.specs.declared.Refusal.TheVariants.{HeaderShort, Lines, Levels, Offset, FileLength, SignOrKind, StraySelection, Bounds, Ceiling, Tree, Room, SliceLength, Threshold, LevelsDiffer, ListedRange, NotUniversal}
+use Rattle.answers.specs.declared.Refusal.TheVariants.{HeaderShort, Lines, Levels, Offset, FileLength, SignOrKind, StraySelection, Bounds, Ceiling, Tree, Room, SliceLength, Threshold, LevelsDiffer}
 
 -- none of the checks applies
 abbrev pub Passes : List Check → Type 0
@@ -118,8 +118,6 @@ number_positive Room = lit< tt
 number_positive SliceLength = lit< tt
 number_positive Threshold = lit< tt
 number_positive LevelsDiffer = lit< tt
-number_positive ListedRange = lit< tt
-number_positive NotUniversal = lit< tt
 
 -- 8 is the number of no refusal (request W2)
 pub eight_retired : (r : Refusal) → number_of r ≡ 8 → ⊥
@@ -137,5 +135,3 @@ eight_retired Room h = omega arith
 eight_retired SliceLength h = omega arith
 eight_retired Threshold h = omega arith
 eight_retired LevelsDiffer h = omega arith
-eight_retired ListedRange h = omega arith
-eight_retired NotUniversal h = omega arith

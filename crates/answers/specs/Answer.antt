@@ -3,9 +3,9 @@
 -- Assumes nothing.
 use Rattle.std.specs.Prelude.{ℕ}
 use Rattle.answers.specs.declared.Refusal.{Refusal}
-use Rattle.answers.specs.declared.Refusal.TheVariants.{HeaderShort, Lines, Levels, Offset, FileLength, SignOrKind, StraySelection, Bounds, Ceiling, Tree, Room, SliceLength, Threshold, LevelsDiffer, ListedRange, NotUniversal}
+use Rattle.answers.specs.declared.Refusal.TheVariants.{HeaderShort, Lines, Levels, Offset, FileLength, SignOrKind, StraySelection, Bounds, Ceiling, Tree, Room, SliceLength, Threshold, LevelsDiffer}
 
--- document 01's number of a refusal; 8 is retired (request W2), 14 is of request W4, 15 of W6, and 16 and 17 of W10
+-- document 01's number of a refusal; 8 is retired (request W2), 14 is of request W4 and 15 of W6
 abbrev pub number_of : Refusal → ℕ
 number_of HeaderShort = 1
 number_of Lines = 2
@@ -21,8 +21,6 @@ number_of Room = 12
 number_of SliceLength = 13
 number_of Threshold = 14
 number_of LevelsDiffer = 15
-number_of ListedRange = 16
-number_of NotUniversal = 17
 
 pub record Answer : Type 0 where
   -- 0 where the operation accepts, else the number with which it refuses

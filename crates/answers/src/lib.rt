@@ -32,10 +32,6 @@ pub enum Refusal {
     Threshold,
     // Two models to be joined whose levels or signs differ (request W6).
     LevelsDiffer,
-    // A height or a number of leaves or lines beyond those that trees are listed for (request W10).
-    ListedRange,
-    // A lent tree that is not universal (request W10).
-    NotUniversal,
 }
 
 pub fn number(r: Refusal) -> u64
@@ -56,7 +52,5 @@ pub fn number(r: Refusal) -> u64
         Refusal::SliceLength => 13,
         Refusal::Threshold => 14,
         Refusal::LevelsDiffer => 15,
-        Refusal::ListedRange => 16,
-        Refusal::NotUniversal => 17,
     }
 }
