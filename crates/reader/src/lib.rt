@@ -1,5 +1,6 @@
 // Reading a file into lent slices. Definitions: specs/.
 #![tactic(auto)]
+
 ghost use Rattle.std.specs.Prelude.{◌≡◌, ◌≤◌, length};
 ghost use Rattle.model.specs.Held.{LaidOut, system_in};
 ghost use Rattle.model.specs.Says.{filled};

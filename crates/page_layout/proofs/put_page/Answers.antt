@@ -4,7 +4,6 @@ use mathlib.Core.Path.{◌≡◌}
 use Prim.Native.Nat.{◌≤◌}
 use native.Mathlib.Omega.{arith}
 use Rattle.model.specs.Held.{system_in}
-use Rattle.met_lines.specs.MetLines.{met_share}
 use Rattle.met_lines.proofs.Search.{met_few}
 use Rattle.text.proofs.Digits.{puts_then}
 use Rattle.page_layout.specs.Page.{page}

@@ -49,4 +49,3 @@ returns c =
       kinds = begun_all (every_length _ _ _) all inv.1;
       thresholds = begun_all (thresholds_length (is_old m.lines m.levels file) _ _) all inv.2;
     }
-
