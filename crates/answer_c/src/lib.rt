@@ -1,5 +1,6 @@
 // Each answer as the six words that a caller from C or Rust is given: number, set, count, length, lines, levels. Definitions: specs/.
 #![tactic(auto)]
+
 ghost use Rattle.std.specs.Prelude.{◌≡◌};
 ghost use Rattle.answers.specs.Answer.{refusal, over_ceiling, number_of};
 ghost use Rattle.model.specs.Says.{reading_answer};

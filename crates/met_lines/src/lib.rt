@@ -1,5 +1,6 @@
 // The lines of a file that can be met from line 0, and the share of good lines among them. Definitions: specs/.
 #![tactic(auto)]
+
 ghost use Rattle.std.specs.Prelude.{◌≡◌, ◌+◌, ◌*◌, ◌≤◌, length, drop};
 ghost use Rattle.numbers.specs.Numbers.{words_from};
 ghost use Rattle.model.specs.Held.{LaidOut, system_in};

@@ -1,6 +1,7 @@
 // The public operations on a model in use: one query, and each of the three judgings. Each takes all inputs, ends, and answers a set,
 // judging with a count, or one refusal by document 01's order. Definitions: specs/.
 #![tactic(auto)]
+
 ghost use Rattle.std.specs.Prelude.{◌≡◌};
 ghost use Rattle.solver.specs.Says.{queried_answer, query_answer, handed_on, PlainSays, BuiltSays, LentSays};
 

@@ -10,4 +10,3 @@ returns-in-OverCeiling c = rw c.j-in-OverCeiling-1.given.1 c.put_over_ceiling.en
 
 pub returns-in-Refused : goal.returns-in-Refused
 returns-in-Refused c = rw c.j-in-Refused-1.given.1 c.put_refused.ensures
-

@@ -7,4 +7,3 @@ returns-in-Accepted c = rw c.r-1.given.1
 
 pub returns-in-Refused : goal.returns-in-Refused
 returns-in-Refused c = rw c.r-in-Refused-1.given.1 c.put_refused.ensures
-

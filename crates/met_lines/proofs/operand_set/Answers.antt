@@ -25,4 +25,3 @@ loop-k-preserved c =
       few = omega (arith, l.invariant.few);
       so_far = ap₂ union c.u64_at-set.ensures l.invariant.so_far ∙ rw (more, drop-drop 8 (z.at + 8 * (l.k - 1)) z.file.now, further);
     }
-
