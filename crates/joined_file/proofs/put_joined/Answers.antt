@@ -10,7 +10,7 @@ use Rattle.model.specs.File.{file_length}
 use Rattle.model.specs.Held.{system_in}
 use Rattle.model.specs.declared.layout.Model.{Model}
 use Rattle.model.proofs.Lines.{every_length}
-use Rattle.encoder.proofs.Sections.{sections_written}
+use Rattle.encoder.proofs.Sections.{sections_copied}
 use Rattle.joined_file.specs.AtHand.{joined_in}
 use Rattle.joined_file.proofs.put_joined.Goals as goal
 
@@ -33,7 +33,7 @@ returns c =
     let words_at = c.words_at-words_at in
     let signs = length-take-le d (drop 16 first) (omega (arith, length-drop 16 first, ready.first_laid.laid, ready.first_laid.whole)) in
     let kinds = both_kinds first second m k in
-    sections_written n d both.signs both.kinds both.thresholds both.words c.args.buffer.now
+    sections_copied n d both.signs both.kinds both.thresholds both.words c.args.buffer.now
     kinds-at.result words_at.result (file_length n d) (2 * n) (8 * (n * d))
     (omega (arith, signs, kinds-at.ensures)) (ap (λ (j : ℕ). 2 * j) kinds) (omega (arith, kinds-at.ensures, words_at.ensures)) (omega (arith, words_at.ensures)) _ _ _ _
     c.put_header.ensures (c.copy_from_slice.ensures.after ∙ ap (λ (j : ℕ). take j (drop 16 first)) (omega (arith, kinds-at.ensures)))
