@@ -1,5 +1,6 @@
 // Making the bench page: a file's judgement as a page of text, in a lent buffer. Definitions: specs/.
 #![tactic(auto)]
+
 ghost use Rattle.bench_page.specs.Says.{PageSays};
 
 use answers::Refusal;

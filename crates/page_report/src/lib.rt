@@ -1,5 +1,6 @@
 // The page program's text for an input. Definitions: specs/.
 #![tactic(auto)]
+
 ghost use Rattle.text.specs.Text.{Puts};
 ghost use Rattle.page_report.specs.Report.{made_text};
 

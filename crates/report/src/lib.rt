@@ -1,5 +1,6 @@
 // The judging program's text for an input. Definitions: specs/.
 #![tactic(auto)]
+
 ghost use Rattle.std.specs.Prelude.{◌+◌, ◌≤◌, length};
 ghost use Rattle.model.specs.Held.{LaidOut, system_in};
 ghost use Rattle.solver.specs.Says.{judged_answer};

@@ -1,6 +1,7 @@
 // A model in use: a lent file with its two counts beside it. The functions over the struct are few and thin: each takes it apart
 // and calls the function on the slice and the numbers. Above them stand functions with plain parameters, so no caller has a struct.
 #![tactic(auto)]
+
 ghost use Rattle.std.specs.Prelude.{◌≡◌, length};
 ghost use Rattle.fixpoint.specs.Lawful.{Range};
 ghost use Rattle.fixpoint.specs.Sets.{sets};

@@ -10,4 +10,3 @@ put_number_line-requires c = omega (arith, hex_long c.args.set)
 pub returns : goal.returns
 returns c =
     puts_then (omega (arith, c.requires)) c.put_hex-digits.ensures c.put_number_line.ensures
-

@@ -26,8 +26,7 @@ put_share-requires-clause-laid_out c = (checked _ c.check-counts.ensures c.in-Ac
 
 pub put_share-requires-clause-le_lines : goal.put_share-requires-clause-le_lines
 put_share-requires-clause-le_lines c =
-    let known = checked _ c.check-counts.ensures c.in-Accepted.is in
-    (
+    let known = checked _ c.check-counts.ensures c.in-Accepted.is in (
       omega (arith, known.counts.lines, known.accepted.header.lines_least),
       omega (arith, answer_few (judged_answer c.solve_plain.result), answer_few (judged_answer c.solve_built-judged.result)),
     )

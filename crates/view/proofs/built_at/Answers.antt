@@ -11,7 +11,7 @@ begin-w-requires c =
     (used c.args.file.now c.args.lines c.args.levels c.requires).held
 
 pub initial_needs-needs-requires : goal.initial_needs-needs-requires
-initial_needs-needs-requires c = begin-requires c κs
+initial_needs-needs-requires c = (used c.args.file.now c.args.lines c.args.levels c.requires).held
 
 pub built_level-requires : goal.built_level-requires
 built_level-requires c =
@@ -30,4 +30,3 @@ returns c =
     let decided = c.begin-w.ensures args.a args.b in
     let needs = c.initial_needs-needs.ensures args.a args.b in
     built_whole args.file.now args.lines args.levels c.requires args.a args.b c.built_level.result (c.built_level.ensures [] (decided, needs))
-

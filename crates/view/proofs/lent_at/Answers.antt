@@ -14,7 +14,7 @@ begin-w-requires c =
     (used c.args.file.now c.args.lines c.args.levels c.requires.0).held
 
 pub initial_needs-needs-requires : goal.initial_needs-needs-requires
-initial_needs-needs-requires c = begin-requires c κs
+initial_needs-needs-requires c = (used c.args.file.now c.args.lines c.args.levels c.requires.0).held
 
 pub lent_level-requires : goal.lent_level-requires
 lent_level-requires c =
@@ -35,4 +35,3 @@ returns c =
     let decided = c.begin-w.ensures args.a args.b in
     let needs = c.initial_needs-needs.ensures args.a args.b in
     lent_whole args.file.now args.lines args.levels c.requires.0 args.a args.b args.u.now args.v.now c.lent_level.result (c.lent_level.ensures [] (decided, needs))
-

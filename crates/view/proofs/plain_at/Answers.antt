@@ -11,7 +11,7 @@ begin-w-requires c =
     (used c.args.file.now c.args.lines c.args.levels c.requires.0).held
 
 pub initial_needs-needs-requires : goal.initial_needs-needs-requires
-initial_needs-needs-requires c = begin-requires c κs
+initial_needs-needs-requires c = (used c.args.file.now c.args.lines c.args.levels c.requires.0).held
 
 pub plain_level-requires : goal.plain_level-requires
 plain_level-requires c =
@@ -29,4 +29,3 @@ returns c =
     let decided = c.begin-w.ensures args.a args.b in
     let needs = c.initial_needs-needs.ensures args.a args.b in
     plain_whole args.file.now args.lines args.levels c.requires.0 args.a args.b args.ceiling c.plain_level.result c.requires.1 (λ rounds h. c.plain_level.ensures rounds h [] (decided, needs))
-

@@ -17,4 +17,3 @@ pub returns : goal.returns
 returns c =
     let args = c.args in
     query_whole args.file.now args.lines args.levels c.requires.0 args.xs.now c.evaluate.result c.requires.1 c.evaluate.ensures
-
