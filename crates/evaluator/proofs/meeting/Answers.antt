@@ -1,7 +1,6 @@
 use mathlib.Core.Bool.{Bool, true, false, cond, not, ◌&&◌, and-true, and-false}
 use mathlib.Core.List.{List}
 use mathlib.Core.Path.{◌≡◌, refl, sym, ◌∙◌, ap}
-use mathlib.Core.Logic.{⊎_elim}
 use Prim.Native.Nat.{ℕ, ◌-◌, ◌*◌, ◌≤◌}
 use native.Mathlib.Omega.{arith}
 use borrow.Author.Tests.{eq-eqb, ne_eqb, eqb-true, eqb-false, le-leb, lt-leb, ltb-true, ltb-false, le-ltb}
@@ -9,11 +8,11 @@ use lib.Bits.{bit_xor}
 use lib.Count.{count_trailing_zeros}
 use lib.Dec.{eqb, leb, ltb}
 use lib.ListN.{length, get_or}
-use Rattle.sets.specs.Set.{is_member, union, intersection, members}
+use Rattle.sets.specs.Set.{is_member, intersection, members}
 use Rattle.sets.proofs.Members.{members_empty, members_some}
 use Rattle.sets.proofs.Membership.{member_differ}
 use Rattle.system.specs.Query.{count_set}
-use Rattle.sets.proofs.PassedLines.{others_fewer, FoundSoFar, found_none, found_all, found_same, found_one}
+use Rattle.sets.proofs.PassedLines.{others_fewer, found_none, found_all, found_same, found_one}
 use Rattle.evaluator.proofs.LookedLines.{masked, count_masked, Looked, looked, in_lines}
 use Rattle.evaluator.proofs.meeting.Invariants.{part_of, some_of}
 use Rattle.evaluator.proofs.meeting.Goals as goal

@@ -3,9 +3,8 @@
 -- Assumes nothing.
 use mathlib.Core.Bool.{Bool, not, ◌&&◌}
 use mathlib.Core.List.{List}
-use Prim.Native.Nat.{ℕ, ◌*◌}
+use Prim.Native.Nat.{ℕ}
 use borrow.Author.Rules.{rules}
-use lib.Count.{count_trailing_zeros}
 use lib.Dec.{eqb, leb}
 use lib.ListN.{get_or}
 use Rattle.system.specs.Query.{count_set}

@@ -6,7 +6,7 @@ use native.Mathlib.Omega.{arith}
 use Rattle.checker.proofs.Accepted.{Checked, checked, refused}
 use Rattle.joiner.proofs.Outcome.{signs_there, signs_differ, signs_tested, first_refused, second_refused, levels_differ, signs_differ_lem, too_many, no_room, at_hand, join_made}
 use Rattle.joiner.proofs.join.Goals as goal
-use Rattle.joiner.proofs.join.Goals.{After-one_differs, Else-one_differs, In-Accepted, In-Accepted-checked_second}
+use Rattle.joiner.proofs.join.Goals.{After-one_differs, In-Accepted, In-Accepted-checked_second}
 
 -- what checking told of the first file, and of the second
 known₁ : (c : In-Accepted) → Checked c.args.first.now c.in-Accepted.m

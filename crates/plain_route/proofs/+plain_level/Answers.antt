@@ -1,5 +1,5 @@
 use Rattle.std.proofs.Common.{◌≡◌, sym, ◌∙◌, List, ◌∷◌, ℕ, suc, ◌-◌, ◌≤◌, ◌<◌, arith}
-use Rattle.fixpoint.specs.Plain.{Run, plain}
+use Rattle.fixpoint.specs.Plain.{plain}
 use Rattle.fixpoint.proofs.Plain.{plain_positive}
 use Rattle.system.specs.System.{System}
 use Rattle.model.specs.declared.layout.Model.{Model}

@@ -4,7 +4,6 @@ use Prim.Native.Nat.{ℕ, ◌-◌}
 use native.Mathlib.Nat.{le_refl}
 use native.Mathlib.Omega.{arith}
 use Rattle.fixpoint.specs.Plain.{plain}
-use Rattle.system.specs.Query.{query}
 use Rattle.evaluator.specs.ByLevels.{Carried}
 use Rattle.model.specs.Held.{system_in}
 use Rattle.plain_route.specs.Under.{under}

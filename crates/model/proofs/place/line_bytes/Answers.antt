@@ -1,7 +1,6 @@
 -- `model::place::line_bytes` meets its contract.
 -- Assumes nothing.
 use mathlib.Core.Path.{sym, ◌∙◌, ap}
-use borrow.Author.Tests.{not-true, not-false}
 use Rattle.model.specs.File.{line_bytes}
 use Rattle.model.proofs.place.line_bytes.Goals as goal
 

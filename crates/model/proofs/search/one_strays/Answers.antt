@@ -1,4 +1,4 @@
-use borrow.Author.Count.{below_none, below_more}
+use borrow.Author.Count.{below_more}
 use mathlib.Core.Path.{◌≡◌, sym, ◌∙◌, ap}
 use mathlib.Core.Bool.{not}
 use native.Mathlib.Omega.{arith}
