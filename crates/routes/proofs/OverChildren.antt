@@ -1,5 +1,5 @@
 -- A level goes over the children of its tree one after the other: what it gives over one child more is that child's value, with the queries of both.
--- Said of `rise`; a `fall` is a `rise` upside down (fixpoint's fall-is-rise).
+-- Said of `rise`; a `fall` is a `rise` upside down (fixpoint's fall_is_rise).
 -- Assumes nothing.
 use mathlib.Core.List.{List, [], ◌∷◌, ◌++◌}
 use mathlib.Core.Path.{◌≡◌, refl, sym, ◌∙◌, ap}
