@@ -1,7 +1,7 @@
 #!/usr/bin/env bash
 # The benchmark with the engine of an earlier commit beside the present one, in one run: harness/earlier.sh COMMIT [--quick].
 # Its C functions that judge must be declared as they are now; by built-in trees it may also judge without a ceiling, as its header shows.
-# It is handed old files alone.
+# It is handed old files alone. A commit from before tools/build.py was there (docs/PORT.md) is of an older kit, and cannot be built with this one.
 set -euo pipefail
 if [ $# -lt 1 ]; then
     echo "usage: harness/earlier.sh COMMIT [--quick]" >&2

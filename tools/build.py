@@ -58,6 +58,8 @@ def prove_all(names, below):
     with ThreadPoolExecutor(os.cpu_count() or 1) as pool:
         while left or running:
             ready = sorted(it for it in left if done.issuperset(below[it]))
+            if not ready and not running:
+                sys.exit(f"rt: FAILED: crates.txt has a cycle among {', '.join(sorted(left))}")
             left.difference_update(ready)
             running |= {pool.submit(prove, it): it for it in ready}
             ended, _ = wait(running, return_when=FIRST_COMPLETED)

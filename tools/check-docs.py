@@ -1,9 +1,9 @@
 #!/usr/bin/env python3
 """Holds the docs to the repository: tools/check-docs.py [FOLDER], from anywhere; FOLDER is a copy of the repository.
 
-- No line of a doc has over 200 characters.
-- What the docs put in backticks is there, but for the manual, which names much that is the user's, and docs/CHANGES.md, which
-  names what was. A path is a file or a folder. `crate::name` is declared in that crate. A name with a hyphen, an underscore or a
+- No line of a doc has over 200 characters, but in docs/PORT.md, whose tables set old and new text side by side.
+- What the docs put in backticks is there, but for the manual, which names much that is the user's, and docs/CHANGES.md and
+  docs/PORT.md, which name what was. A path is a file or a folder. `crate::name` is declared in that crate. A name with a hyphen, an underscore or a
   capital inside is declared somewhere; and where the text says "`name`, `name` in `file`", in that file. In README.md,
   docs/PROVED.md and docs/DEMANDS.md any other word stands somewhere in the sources.
 - docs/DEMANDS.md names every public function of the crates, and each must-fail edit that it names is one. The table of files of
@@ -47,7 +47,7 @@ def files():
     """Every file of the repository but the docs."""
     for path in sorted(ROOT.rglob("*")):
         inside = path.relative_to(ROOT)
-        if path.is_file() and inside.parts[0] not in (".git", "target") and "target" not in inside.parts[:2]:
+        if path.is_file() and inside.parts[0] not in (".git", "target") and "target" not in inside.parts[:2] and "out" not in inside.parts:
             if path.suffix in SOURCES and inside not in DOCS:
                 yield inside
 
@@ -76,7 +76,7 @@ for path, names in BY_FILE.items():
         PLACES.setdefault(name, []).append(str(path))
 EDITS = {path.stem for path in TEXT if path.suffix == ".edit"}
 FILE_NAMES = {path.name for path in [*TEXT, *DOCS]}
-KIT = {"io", "os", "libc", "bytes", "std"}
+KIT = {"std"}
 ALL_TEXT = "\n".join(TEXT.values()) + "\n".join(map(str, TEXT))
 
 
@@ -248,7 +248,7 @@ def anchors(text):
 
 def check_text(doc):
     for number, line in lines_of(doc):
-        if len(line) > LONGEST:
+        if len(line) > LONGEST and doc != Path("docs/PORT.md"):
             say(doc, number, f"has {len(line)} characters, over {LONGEST}")
         for link in re.findall(r"\]\(([^)]+)\)", line):
             path, _, part = link.partition("#")

@@ -79,7 +79,7 @@ count_crates() {
             for (i = 1; i <= n; i++) visit(below[i])
         }
         { sub(/#.*/, "") }
-        /:/ { crate = $0; sub(/:.*/, "", crate); gsub(/[ \t]/, "", crate); sub(/^[^:]*:/, ""); stands_on[crate] = $0 }
+        /:/ { crate = $1; sub(/:.*/, "", crate); sub(/^[^:]*:/, ""); stands_on[crate] = $0 }
         END { visit(wanted); print count + 0 }' "$root/crates.txt"
 }
 
@@ -112,6 +112,9 @@ make_ready() {
     [ -n "$why" ] || return 0
     if ! command -v rt >/dev/null; then
         fail 3 "the program is to be built, since $why, and rt is not on the PATH: install the Rattle kit (/opt/rattle)"
+    fi
+    if ! command -v python3 >/dev/null; then
+        fail 3 "the program is to be built, since $why, and python3 is not on the PATH: install Python 3"
     fi
     if ! { mkdir -p "$root/target/log" && exec 9>"$root/target/proving"; } 2>/dev/null; then
         fail 3 "the program is to be built, since $why, and target/ cannot be written"

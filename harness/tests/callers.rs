@@ -168,8 +168,8 @@ fn the_refusals_of_the_header_are_the_engines() {
 #[test]
 fn the_words_of_an_answer_stand_in_its_order() {
     let engine = text("crates/answer_c/specs/Words.antt");
-    let words = between(&engine, "sixWords r = ", "[]").split(" ∷ ").filter(|word| !word.is_empty());
-    let mut words: Vec<String> = words.map(|word| word.trim_start_matches("r .").to_uppercase()).collect();
+    let words = between(&engine, "six_words r = ", "[]").split(" ∷ ").filter(|word| !word.is_empty());
+    let mut words: Vec<String> = words.map(|word| word.trim_start_matches("r.").to_uppercase()).collect();
     assert_eq!(words.len(), 6);
     words.push("WORDS".to_string());
     let of_header = enumerators("solver_word");

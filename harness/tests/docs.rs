@@ -16,12 +16,12 @@ fn checked(repository: &Path) -> (bool, String) {
     (ended.status.success(), said)
 }
 
-/// What the repository has besides what is built and what git keeps.
+/// What the repository has besides what is proved and built and what git keeps.
 fn copy(from: &Path, to: &Path) {
     fs::create_dir_all(to).expect("a folder");
     for entry in fs::read_dir(from).expect("a folder").map(|entry| entry.expect("an entry")) {
         let (name, path) = (entry.file_name(), entry.path());
-        if path.is_dir() && name != "target" && name != ".git" {
+        if path.is_dir() && name != "target" && name != "out" && name != ".git" {
             copy(&path, &to.join(name));
         } else if path.is_file() {
             fs::copy(&path, to.join(name)).expect("a copy");
@@ -54,15 +54,15 @@ fn damages() -> Vec<Damage> {
         // A theorem that is gone, and one that stands elsewhere.
         damage(
             "crates/routes/proofs/Promises.antt",
-            "plain-is-nested",
-            "plain-nests",
-            "nothing declares `plain-is-nested`",
+            "plain_is_nested",
+            "plain_nests",
+            "nothing declares `plain_is_nested`",
         ),
         damage(
             "docs/PROVED.md",
-            "`nestedSet` in `routes/specs/Routes`",
-            "`nestedSet` in `system/specs/System`",
-            "`nestedSet` is not declared in `system/specs/System`",
+            "`nested_set` in `routes/specs/Routes`",
+            "`nested_set` in `system/specs/System`",
+            "`nested_set` is not declared in `system/specs/System`",
         ),
         // A function, a file and a word that are not there.
         damage("docs/DEMANDS.md", "`checker::check`", "`checker::look`", "`checker` declares no `look`"),
@@ -136,7 +136,7 @@ fn damages() -> Vec<Damage> {
 /// Changes that are none to the script: an import and a blank line are not asked of a reader, and 200 characters are few enough.
 fn harmless() -> [(&'static str, String); 2] {
     [
-        ("crates/trees/specs/Fit.antt", "use lib.Dec.{eqb}\n\n".to_string()),
+        ("crates/trees/specs/Fit.antt", "use Rattle.std.specs.Prelude.{eqb}\n\n".to_string()),
         ("docs/MANUAL.md", format!("{}\n", "é".repeat(200))),
     ]
 }

@@ -237,6 +237,18 @@ fn a_newer_edit_that_must_fail_has_nothing_built() {
     }
 }
 
+/// What the prover keeps is no source, and makes its crate's own folder newer.
+#[test]
+fn what_the_prover_keeps_has_nothing_built() {
+    for program in PROGRAMS {
+        let copy = Copy::new(program, "kept");
+        fs::create_dir(copy.path("crates/a/out")).expect("it is made");
+        fs::write(copy.path("crates/a/out/kept.antt"), "").expect("it is written");
+        copy.age("crates/a", 10);
+        copy.prints("old", "");
+    }
+}
+
 // ---- the first run ----
 
 /// What build.py prints while it proves the four crates of a program, and builds it.
