@@ -65,7 +65,9 @@ page_nested file judged =
 -- a number with which judging refuses is the page's
 pub judging_before : (file : List ℕ) (room : ℕ) → 0 < shown_number file → page_number file room ≡ shown_number file
 unfolding page_number built_number
-judging_before file room = first_before (built_checks file 0 (full (lines_in file)) program_ceiling) (room_checks file room)
+judging_before file room h =
+    let checked : page_number file room ≡ first_of (built_checks file 0 (full (lines_in file)) program_ceiling ++ room_checks file room) = refl in
+    checked ∙ first_before (built_checks file 0 (full (lines_in file)) program_ceiling) (room_checks file room) h
 
 -- where judging accepts, the room alone is left to check
 pub room_left : (file : List ℕ) (room : ℕ) → shown_number file ≡ 0 → page_number file room ≡ first_of (room_checks file room)
