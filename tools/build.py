@@ -31,14 +31,14 @@ def read_crates():
 
 def needed(names, below):
     found = set()
-    todo = list(names)
-    while todo:
-        name = todo.pop()
+    unseen = list(names)
+    while unseen:
+        name = unseen.pop()
         if name not in below:
             sys.exit(f"build.py: crates.txt has no crate {name}")
         if name not in found:
             found.add(name)
-            todo += below[name]
+            unseen += below[name]
     return found
 
 

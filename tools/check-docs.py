@@ -1,7 +1,7 @@
 #!/usr/bin/env python3
 """Holds the docs to the repository: tools/check-docs.py [FOLDER], from anywhere; FOLDER is a copy of the repository.
 
-- No line of a doc has over 200 characters, but in docs/PORT.md, whose tables set old and new text side by side.
+- No line of a doc has over 200 characters.
 - What the docs put in backticks is there, but for the manual, which names much that is the user's, and docs/CHANGES.md and
   docs/PORT.md, which name what was. A path is a file or a folder. `crate::name` is declared in that crate. A name with a hyphen, an underscore or a
   capital inside is declared somewhere; and where the text says "`name`, `name` in `file`", in that file. In README.md,
@@ -248,7 +248,7 @@ def anchors(text):
 
 def check_text(doc):
     for number, line in lines_of(doc):
-        if len(line) > LONGEST and doc != Path("docs/PORT.md"):
+        if len(line) > LONGEST:
             say(doc, number, f"has {len(line)} characters, over {LONGEST}")
         for link in re.findall(r"\]\(([^)]+)\)", line):
             path, _, part = link.partition("#")
