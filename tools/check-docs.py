@@ -95,6 +95,12 @@ def declared_in(name, place):
     return any(f"{path}/".startswith(f"{place}/") for path in PLACES.get(name, []))
 
 
+def owned_by(name):
+    """The files that declare a type, or have an `impl` of it or for it."""
+    impl = re.compile(rf"^impl\b.*\b{name}\b", re.M)
+    return [path for path in PLACES.get(name, []) if path.endswith(".rt")] + [str(path) for path, text in TEXT.items() if path.suffix == ".rt" and impl.search(text)]
+
+
 # ---- names ----
 
 WORD = re.compile(r"`([^`]+)`")
@@ -124,7 +130,7 @@ def check_word(doc, number, word):
         if owner in KIT:
             return
         crate = Path("crates", owner, "src")
-        places = [crate] if (ROOT / crate).is_dir() else [path for path in PLACES.get(owner, []) if path.endswith(".rt")]
+        places = [crate] if (ROOT / crate).is_dir() else owned_by(owner)
         if not any(declared_in(name, place) for place in places):
             say(doc, number, f"`{owner}` declares no `{name}`")
     elif re.fullmatch(r"[\w+-]+\.(rs|py|sh|h|c|txt|model|md|svg)", word):

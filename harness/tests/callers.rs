@@ -141,7 +141,7 @@ fn the_refusals_of_the_header_are_the_engines() {
     let cases = between(&engine, "pub enum Refusal {\n", "\n}").lines().map(str::trim);
     let cases: Vec<&str> =
         cases.filter(|line| !line.starts_with("//")).map(|line| line.trim_end_matches(',')).collect();
-    let numbers = between(&engine, "pub fn number(", "\n}\n").lines();
+    let numbers = between(&engine, "impl From<Refusal> for u64 {", "\n}\n").lines();
     let numbers: Vec<(&str, &str)> = numbers
         .filter_map(|line| line.trim().strip_prefix("Refusal::")?.trim_end_matches(',').split_once(" => "))
         .collect();

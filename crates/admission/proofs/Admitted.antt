@@ -9,6 +9,7 @@ use Prim.Native.Nat.{ℕ, ◌≤◌}
 use native.Mathlib.Omega.{arith}
 use borrow.Author.Tests.{not-false}
 use Rattle.answers.specs.Check.{Check, ◌if◌, first_of, unless}
+use Rattle.answers.specs.Answer.{refusal, number_of}
 use Rattle.answers.specs.declared.Refusal.{Refusal}
 use Rattle.answers.proofs.Checks.{Passes, passes_both, passes_none, none_first, first_other, after_none, before_passes}
 use Rattle.sets.specs.Set.{full, is_within}
@@ -20,10 +21,8 @@ use Rattle.fixpoint.proofs.Sets.{sets_range}
 use Rattle.system.specs.System.{System}
 use Rattle.model.specs.File.{lines_in, levels_in, decode}
 use Rattle.checker.specs.Checks.{file_checks, file_number, InUse}
-use Rattle.model.specs.Says.{reading_answer, sized}
+use Rattle.model.specs.Says.{sized}
 use Rattle.model.specs.declared.layout.Model.{Model}
-use Rattle.model.specs.declared.layout.Reading.{Reading}
-use Rattle.model.specs.declared.layout.Reading.TheVariants as reading
 use Rattle.model.proofs.Refusals.{AcceptedAs, RefusedAs, accepted_as, refused_as}
 use Rattle.checker.proofs.Accepted.{accepted, decoded, held}
 use Rattle.model.specs.Held.{Held, system_in}
@@ -60,26 +59,26 @@ module _ (file : List ℕ) (a b : ℕ) where
   unfolding file_number
   file_passed h = passes_none (file_checks file) (passes_both (file_checks file) (9 if misplaced (lines_in file) a b ∷ []) (passes h)).0
 
-  module _ {r : Reading} (says : reading_answer r ≡ unless (bound_number file a b) (sized (lines_in file) (levels_in file))) where
-    pub admitted : {m : Model} → r ≡ reading.Accepted m → Admitted file a b m
-    unfolding file_number decode
-    admitted {m} e =
-        let counts = accepted_as (bound_number file a b) (lines_in file) (levels_in file) says e in
-        let both = passes_both (file_checks file) (9 if misplaced (lines_in file) a b ∷ []) (passes counts.number) in
-        let none : file_number file ≡ 0 = file_passed counts.number in
-        let whole = accepted file none in
-        record {
-          number = counts.number;
-          counts = counts;
-          in_use = rw none (sym (ap₂ sized counts.lines counts.levels));
-          held = held whole counts;
-          system = decoded file counts;
-          some_line = whole.header.lines_least;
-          range = in_range (lines_in file) a b both.1.0;
-        }
+  -- what `admit`'s two answers say; in an arm the clause is the fact that is asked for
+  pub admitted : {m : Model} → sized m.lines m.levels ≡ unless (bound_number file a b) (sized (lines_in file) (levels_in file)) → Admitted file a b m
+  unfolding file_number decode
+  admitted says =
+      let counts = accepted_as (bound_number file a b) (lines_in file) (levels_in file) says in
+      let both = passes_both (file_checks file) (9 if misplaced (lines_in file) a b ∷ []) (passes counts.number) in
+      let none : file_number file ≡ 0 = file_passed counts.number in
+      let whole = accepted file none in
+      record {
+        number = counts.number;
+        counts = counts;
+        in_use = rw none (sym (ap₂ sized counts.lines counts.levels));
+        held = held whole counts;
+        system = decoded file counts;
+        some_line = whole.header.lines_least;
+        range = in_range (lines_in file) a b both.1.0;
+      }
 
-    pub turned_down : {e : Refusal} → r ≡ reading.Refused e → RefusedAs (bound_number file a b) e
-    turned_down = refused_as (bound_number file a b) (lines_in file) (levels_in file) says
+  pub turned_down : {e : Refusal} → refusal (number_of e) ≡ unless (bound_number file a b) (sized (lines_in file) (levels_in file)) → RefusedAs (bound_number file a b) e
+  turned_down says = refused_as (bound_number file a b) (lines_in file) (levels_in file) says
 
   -- 10 is left to the ceilings
   pub never_ten : bound_number file a b ≡ 10 → ⊥

@@ -5,7 +5,7 @@ ghost use Rattle.std.specs.Prelude.{◌≡◌};
 ghost use Rattle.answers.specs.Answer.{number_of};
 
 // Why an operation refuses. In document 01 each is a number, which `number_of` in specs/ gives. Its 8, a line without operands, is retired (request W2).
-#[derive(Clone, Copy)]
+#[derive(Clone, Copy, Debug, PartialEq, Eq)]
 pub enum Refusal {
     // Under 16 bytes.
     HeaderShort,
@@ -34,23 +34,26 @@ pub enum Refusal {
     LevelsDiffer,
 }
 
-pub fn number(r: Refusal) -> u64
-    ensures { result ≡ number_of r }
-{
-    match r {
-        Refusal::HeaderShort => 1,
-        Refusal::Lines => 2,
-        Refusal::Levels => 3,
-        Refusal::Offset => 4,
-        Refusal::FileLength => 5,
-        Refusal::SignOrKind => 6,
-        Refusal::StraySelection => 7,
-        Refusal::Bounds => 9,
-        Refusal::Ceiling => 10,
-        Refusal::Tree => 11,
-        Refusal::Room => 12,
-        Refusal::SliceLength => 13,
-        Refusal::Threshold => 14,
-        Refusal::LevelsDiffer => 15,
+// The number of a refusal.
+impl From<Refusal> for u64 {
+    ghost from_gives = { λ r n. n ≡ number_of r };
+
+    fn from(r: Refusal) -> u64 {
+        match r {
+            Refusal::HeaderShort => 1,
+            Refusal::Lines => 2,
+            Refusal::Levels => 3,
+            Refusal::Offset => 4,
+            Refusal::FileLength => 5,
+            Refusal::SignOrKind => 6,
+            Refusal::StraySelection => 7,
+            Refusal::Bounds => 9,
+            Refusal::Ceiling => 10,
+            Refusal::Tree => 11,
+            Refusal::Room => 12,
+            Refusal::SliceLength => 13,
+            Refusal::Threshold => 14,
+            Refusal::LevelsDiffer => 15,
+        }
     }
 }

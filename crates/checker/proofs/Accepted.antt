@@ -5,7 +5,7 @@ use mathlib.Core.Bool.{false}
 use mathlib.Core.List.{List, ◌++◌}
 use mathlib.Core.Path.{◌≡◌, refl, sym, ◌∙◌, ap, ap₂, subst}
 use mathlib.Mathlib.Data.Bool.Basic.{or-eq-false-eq-eq-false-and-eq-false as neither}
-use Prim.Native.Nat.{ℕ, ◌+◌, ◌*◌, ◌^◌, ◌≤◌, ◌<◌, min}
+use Prim.Native.Nat.{ℕ, ◌*◌, ◌^◌, ◌≤◌, ◌<◌, min}
 use native.Mathlib.Decide.{dec_lt}
 use native.Mathlib.Nat.{min-eq_left}
 use native.Mathlib.Omega.{arith}
@@ -23,11 +23,12 @@ use Rattle.model.specs.File.{lines_in, levels_in, highest_kind, sections, decode
 use Rattle.model.specs.Checks.{some, strays, misfits, threshold_misfits}
 use Rattle.model.specs.Held.{LaidOut, Held}
 use Rattle.checker.specs.Checks.{header_checks, section_checks, file_checks, file_number, check_answer}
-use Rattle.model.specs.Says.{reading_answer}
+use Rattle.model.specs.Says.{sized}
+use Rattle.model.specs.Files.{held_system}
+use Rattle.answers.specs.Answer.{refusal, number_of}
 use Rattle.answers.specs.declared.Refusal.{Refusal}
 use Rattle.model.specs.declared.layout.Model.{Model}
-use Rattle.model.specs.declared.layout.Reading.{Reading}
-use Rattle.model.specs.declared.layout.Reading.TheVariants as reading
+use Rattle.model.specs.declared.held.HeldFile.{HeldFile}
 use Rattle.sets.specs.Set.{full}
 use Rattle.sets.proofs.Order.{within_le}
 use Rattle.sets.proofs.Range.{full_below}
@@ -147,7 +148,7 @@ module _ {file : List ℕ} {e : ℕ} {m : Model} where
   pub held : Accepted file → AcceptedAs e (lines_in file) (levels_in file) m → Held file m
   held ok a = record { laid_out = laid_out ok.header a; votes = subst VotesNeed (sym (decoded file a)) ok.votes }
 
--- what checking's two answers say
+-- what checking says that accepts
 pub record Checked (file : List ℕ) (m : Model) : Type 0 where
   pub counts : AcceptedAs (file_number file) (lines_in file) (levels_in file) m
   pub accepted : Accepted file
@@ -156,10 +157,11 @@ pub record Checked (file : List ℕ) (m : Model) : Type 0 where
   pub laid_out : LaidOut file m
   pub held : Held file m
 
-module _ (file : List ℕ) {a : Reading} (h : reading_answer a ≡ check_answer file) where
-  pub checked : {m : Model} → a ≡ reading.Accepted m → Checked file m
-  checked e =
-      let counts = accepted_as (file_number file) (lines_in file) (levels_in file) h e in
+-- What checking's two answers say. In an arm the clause is the fact that is asked for.
+module _ (file : List ℕ) where
+  pub checked : {m : Model} → sized m.lines m.levels ≡ check_answer file → Checked file m
+  checked h =
+      let counts = accepted_as (file_number file) (lines_in file) (levels_in file) h in
       let whole = accepted file counts.number in
       let at_hand = held whole counts in
       record {
@@ -171,8 +173,12 @@ module _ (file : List ℕ) {a : Reading} (h : reading_answer a ≡ check_answer 
         held = at_hand;
       }
 
-  pub refused : {r : Refusal} → a ≡ reading.Refused r → RefusedAs (file_number file) r
-  refused = refused_as (file_number file) (lines_in file) (levels_in file) h
+  pub refused : {r : Refusal} → refusal (number_of r) ≡ check_answer file → RefusedAs (file_number file) r
+  refused h = refused_as (file_number file) (lines_in file) (levels_in file) h
+
+-- the system of the file that checking hands back is the one that the file stands for
+pub held_decoded : {file : List ℕ} (f : HeldFile) → f.bytes.now ≡ file → Checked file f.model → held_system f ≡ decode file
+held_decoded f same known = ap (sections f.model.lines f.model.levels) same ∙ known.system
 
 -- the mask of all lines of an accepted file, as `full_set` gives it
 pub all_lines : (file : List ℕ) {m : Model} {all : ℕ} → Checked file m → all ≡ full (min m.lines 64) → all ≡ full (lines_in file)

@@ -27,11 +27,9 @@ fn put_lines(s: &mut [u8], kinds: &[u8], thresholds: &[u8])
     requires kinds_in_bounds { 2 * length kinds.now ≤ length s.old }
     ensures { s.new ≡ line_records kinds.now thresholds.now ++ drop (2 * length kinds.now) s.old }
 {
-    let mut i = 0;
-    while i < kinds.len() {
-        s[2 * i] = kinds[i];
+    for (i, kind) in kinds.iter().enumerate() {
+        s[2 * i] = *kind;
         s[2 * i + 1] = thresholds[i];
-        i += 1;
     }
 }
 

@@ -13,11 +13,11 @@ use lib.ListN.{length, get_or}
 use lib.Pow.{ones_lt}
 use Rattle.sets.specs.Set.{is_member, full, union, intersection, bounded_step}
 use Rattle.sets.proofs.Order.{member_le}
-use Rattle.sets.proofs.Range.{member_above, member_below, intersection_below}
+use Rattle.sets.proofs.Range.{member_above, member_below}
 use Rattle.sets.proofs.Membership.{member_meet, member_join, member_differ, member_empty, member_full, same_members}
 use Rattle.system.specs.System.{System}
 use Rattle.system.specs.Query.{query, words_of, VotesNeed}
-use Rattle.evaluator.specs.ByLevels.{Decided, Needs, Carried, Lowered, initial_set, selects, set_at, is_met, is_lowered, line_needs, outer_set, open_set, is_open, still_needs}
+use Rattle.evaluator.specs.ByLevels.{Decided, Needs, Carried, Lowered, Next, initial_set, selects, set_at, is_met, is_lowered, line_needs, outer_set, open_set, is_open, still_needs}
 use Rattle.evaluator.specs.declared.Pending.{Pending}
 use Rattle.system.proofs.LineSets.{member_set}
 use Rattle.system.proofs.Monotone.{set_below}
@@ -57,10 +57,6 @@ asked_of a b w = intersection w.undecided (intersection b (bit_xor b a))
 abbrev pub unset_of : ℕ → ℕ → Pending → ℕ
 unset_of a b w = intersection (asked_of a b w) (bit_xor (asked_of a b w) w.set)
 
--- a part of them has no line that was not undecided
-pub asked_few : (n a b : ℕ) (w : Pending) (z : ℕ) → w.undecided < 2 ^ n → intersection (asked_of a b w) z < 2 ^ n
-asked_few n a b w z h = intersection_below n (asked_of a b w) z (intersection_below n w.undecided (intersection b (bit_xor b a)) h)
-
 -- a set within another is no greater
 within_few : (n y z : ℕ) → ((i : ℕ) → is_member y i ≡ true → is_member z i ≡ true) → z < 2 ^ n → y < 2 ^ n
 within_few n y z h few = let e = member_le y z h in lt_of_le_of_lt (omega (arith, and_le_r y z)) few
@@ -73,7 +69,7 @@ module _ (s : System) (votes : VotesNeed s) (k x a b : ℕ) (w : Pending) (needs
     (few : w.undecided < 2 ^ s.lines) (met lowered missed : ℕ)
     (met-is : (i : ℕ) → is_member met i ≡ (is_member (unset_of a b w) i && is_met s k x needs i))
     (lowered_is : (i : ℕ) → is_member lowered i ≡ (is_member (unset_of a b w) i && is_lowered s k x needs i))
-    (missed-is : (i : ℕ) → is_member missed i ≡ (is_member (intersection (asked_of a b w) w.set) i && selects s k (left_out x) i)) where
+    (out : ℕ) (out-is : out ≡ left_out x) (missed-is : (i : ℕ) → is_member missed i ≡ (is_member (intersection (asked_of a b w) w.set) i && selects s k out i)) where
   abbrev asked : ℕ
   asked = asked_of a b w
 
@@ -98,7 +94,7 @@ module _ (s : System) (votes : VotesNeed s) (k x a b : ℕ) (w : Pending) (needs
   changes_is : (i : ℕ) → is_member changes i ≡ decides (is_member asked i) (is_member w.set i) (is_met s k x needs i) (selects s k (left_out x) i)
   changes_is i =
       member_join met missed i
-      ∙ rw (met-is i, missed-is i, unset_is i, member_meet asked w.set i)
+      ∙ rw (met-is i, missed-is i, out-is, unset_is i, member_meet asked w.set i)
       (tidy (is_member asked i) (is_member w.set i) (is_met s k x needs i) (selects s k (left_out x) i))
 
   asked_inside : (i : ℕ) → is_member asked i ≡ true → is_member w.undecided i ≡ true
@@ -112,7 +108,7 @@ module _ (s : System) (votes : VotesNeed s) (k x a b : ℕ) (w : Pending) (needs
       go false true v h f q e = absurd (true≢false q)
       go false false v h f q e = absurd (true≢false (sym e))
 
-  pub lowered_few : lowered < 2 ^ s.lines
+  lowered_few : lowered < 2 ^ s.lines
   lowered_few =
       within_few s.lines lowered w.undecided
       (λ i e. asked_inside i (first (is_member asked i) _ (sym (unset_is i) ∙ first (is_member (unset_of a b w) i) _ (sym (lowered_is i) ∙ e)))) few
@@ -153,15 +149,19 @@ module _ (s : System) (votes : VotesNeed s) (k x a b : ℕ) (w : Pending) (needs
         go false v z l true d eo ev ez ed ec el op cl = absurd (true≢false ec)
         go false v z l false d eo ev ez ed ec el op cl = absurd (true≢false (sym op))
 
-  pub decided_next : (ys : List ℕ) → Carried s (suc k) ys a b w needs → Decided s k (x ∷ ys) a b after
+  decided_next : (ys : List ℕ) → Carried s (suc k) ys a b w needs → Decided s k (x ∷ ys) a b after
   decided_next ys carried = record {
     value = λ i p q. member_differ w.set changes i ∙ sym (line_next ys carried i p q).0;
     still = λ i p q. member_differ asked changes i ∙ sym (line_next ys carried i p q).1;
     lines = within_few s.lines (bit_xor asked changes) w.undecided after_inside few;
   }
 
-  pub needs_next : (ys : List ℕ) → Carried s (suc k) ys a b w needs → (row : List ℕ) → Lowered s k x lowered needs row → Needs s k (x ∷ ys) a b row
+  needs_next : (ys : List ℕ) → Carried s (suc k) ys a b w needs → (row : List ℕ) → Lowered s k x lowered needs row → Needs s k (x ∷ ys) a b row
   needs_next ys carried row low i p q o v = line_needs_lem ys carried i p q o v row low
+
+  -- so what is decided is right, whatever arguments stand for what was carried, and only lines of the system need less
+  pub next : (lowered < 2 ^ s.lines) × ((ys : List ℕ) → Carried s (suc k) ys a b w needs → Next s k x ys a b needs record { pending = after; lowered = lowered })
+  next = (lowered_few, λ ys carried. record { decided = decided_next ys carried; still_needs_lem = needs_next ys carried })
 
 -- where no line needs less
 pub lowered_none : (s : System) (k x : ℕ) (needs : List ℕ) {lines : ℕ} → lines ≡ 0 → Lowered s k x lines needs needs

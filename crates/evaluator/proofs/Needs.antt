@@ -5,13 +5,14 @@
 use mathlib.Core.Bool.{Bool, true, false, cond, not, true≢false, ◌&&◌, ◌||◌, beq, and-false}
 use mathlib.Core.List.{List, [], ◌∷◌, ◌++◌, map, map-append}
 use mathlib.Core.Path.{◌≡◌, refl, sym, ◌∙◌, ap, ap₂}
-use Prim.Native.Nat.{ℕ, zero, suc, ◌+◌, ◌-◌, ◌≤◌, ◌<◌}
+use Prim.Native.Nat.{ℕ, zero, suc, ◌+◌, ◌-◌, ◌^◌, ◌≤◌, ◌<◌}
 use native.Mathlib.Nat.{add_comm}
 use native.Mathlib.Omega.{arith}
 use borrow.Author.Tests.{ne_eqb, le-leb, lt-leb, leb-true, leb-false}
-use lib.Bits.{bit_xor}
+use lib.Bits.{bit_xor, xor_add_and}
 use lib.Dec.{eqb, leb}
 use Rattle.sets.specs.Set.{is_member, full}
+use Rattle.sets.proofs.Range.{below_full}
 use Rattle.sets.proofs.Membership.{member_differ, member_full}
 use Rattle.system.specs.Query.{any, all, count_set, value_of, selected}
 use Rattle.system.proofs.Masks.{count_append, still_needed}
@@ -111,6 +112,10 @@ not_left_out x j h = member_differ x (full 64) j ∙ rw (member_full 64 j h) (go
     go : (t : Bool) → cond t false true ≡ not t
     go true = refl
     go false = refl
+
+-- it is what lacks to all
+pub turned : (x : ℕ) → x < 2 ^ 64 → 2 ^ 64 - 1 - x ≡ left_out x
+turned x h = omega (arith, xor_add_and x (full 64), below_full 64 x h)
 
 -- an operand that is not set is one that is left out
 against_true : (m w x y : ℕ) → ((j : ℕ) → j < m → is_member y j ≡ not (is_member x j)) → against true (selected m w x) ≡ against false (selected m w y)

@@ -1,1 +1,2 @@
 pub mod ByLevels
+pub mod Sides

@@ -5,12 +5,11 @@
 
 ghost use Rattle.streams.specs.Input.{InputSays};
 
-use model::{Model, Reading};
+use model::Model;
 use std::env::{Env, FillError};
 use std::fs;
 use std::rt::Files;
-use streams::{Input, say};
-use writer::Written;
+use streams::say;
 
 // One byte more than the longest file has is enough to tell that an input is too long.
 const INPUT_SIZE: usize = Model::MAX_FILE + 1;
@@ -19,25 +18,27 @@ const INPUT_SIZE: usize = Model::MAX_FILE + 1;
 const NAME_SIZE: usize = 4096;
 
 // Reads the file that argument i names into the buffer. Where it cannot be opened or read, it says so.
-fn read_file<R: Env + Files>(rt: &R, i: usize, buffer: &mut [u8], errors: &impl Print) -> Input
+fn read_file<R: Env + Files>(
+    rt: &R,
+    i: usize,
+    buffer: &mut [u8],
+    errors: &impl Print,
+) -> Option<usize>
     ensures { InputSays result buffer.new }
 {
     let mut argument = [0u8; NAME_SIZE];
-    let length = match rt.arg(i, &mut argument) {
-        Ok(length) => length,
-        // Of a longer name the front is there, which is too long to be opened as well.
-        Err(_) => NAME_SIZE,
-    };
+    // Of a longer name the front is there, which is too long to be opened as well.
+    let length = rt.arg(i, &mut argument).unwrap_or(NAME_SIZE);
     let Ok(name) = str::from_utf8(&argument[..length]) else {
         say(&argument[..length], errors);
         say(b": the name is not UTF-8 text\n", errors);
-        return Input::Failed;
+        return None;
     };
     match fs::open(rt, name) {
         Ok(mut file) => streams::read_input(&mut file, name, buffer, errors),
         Err(e) => {
             streams::say_failed(name, &e, errors);
-            Input::Failed
+            None
         }
     }
 }
@@ -68,16 +69,14 @@ fn say_unlike(first: &[u8], second: &[u8], errors: &impl Print) -> bool {
 
 // Says what the refusal of two files is about, in the order in which joining looks at them.
 fn say_where(first: &[u8], second: &[u8], errors: &impl Print) {
-    let checked = checker::check(first);
-    let m = match checked {
-        Reading::Accepted(m) => m,
-        Reading::Refused(_) => return say(b"the first file\n", errors),
+    let Ok(one) = checker::check(first) else {
+        return say(b"the first file\n", errors);
     };
-    let checked_second = checker::check(second);
-    let k = match checked_second {
-        Reading::Accepted(k) => k,
-        Reading::Refused(_) => return say(b"the second file\n", errors),
+    let Ok(other) = checker::check(second) else {
+        return say(b"the second file\n", errors);
     };
+    let m = one.model;
+    let k = other.model;
     if m.levels != k.levels {
         return say_counts(m.levels, "levels", k.levels, errors);
     }
@@ -95,11 +94,10 @@ fn say_where(first: &[u8], second: &[u8], errors: &impl Print) {
 // Joins two files, and writes the joined file, or says why there is none.
 fn join_files(first: &[u8], second: &[u8], output: &impl Print, errors: &impl Print) {
     let mut out = [0u8; Model::MAX_FILE];
-    let joined = joiner::join(first, second, &mut out);
-    match joined {
-        Written::Length(length) => streams::write_output(&out[..length], output, errors),
-        Written::Refused(e) => {
-            let made = text::put_refused(&mut out, 0, answers::number(e), 0);
+    match joiner::join(first, second, &mut out) {
+        Ok(length) => streams::write_output(&out[..length], output, errors),
+        Err(e) => {
+            let made = text::put_refused(&mut out, 0, u64::from(e), 0);
             say(&out[..made], errors);
             say_where(first, second, errors);
         }
@@ -117,13 +115,11 @@ fn main(rt: HostRuntime) {
         return say(b"usage: join FIRST SECOND >OUT\n", &errors);
     }
     let mut first = [0u8; INPUT_SIZE];
-    let first_read = read_file(&rt, 1, &mut first, &errors);
-    let Input::Bytes(first_got) = first_read else {
+    let Some(first_got) = read_file(&rt, 1, &mut first, &errors) else {
         return;
     };
     let mut second = [0u8; INPUT_SIZE];
-    let second_read = read_file(&rt, 2, &mut second, &errors);
-    let Input::Bytes(second_got) = second_read else {
+    let Some(second_got) = read_file(&rt, 2, &mut second, &errors) else {
         return;
     };
     join_files(

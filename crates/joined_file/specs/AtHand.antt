@@ -7,6 +7,7 @@ use Rattle.system.specs.System.{System}
 use Rattle.system.specs.Joined.{joined}
 use Rattle.model.specs.Held.{LaidOut, system_in}
 use Rattle.model.specs.declared.layout.Model.{Model}
+use Rattle.model.specs.declared.held.LaidFile.{LaidFile}
 
 -- the system of the two, joined
 abbrev pub joined_in : List ℕ → Model → List ℕ → Model → System
@@ -20,3 +21,10 @@ pub record AtHand (first : List ℕ) (m : Model) (second : List ℕ) (k : Model)
   pub same_levels : k.levels ≡ m.levels
   pub some_line : 1 ≤ k.lines
   pub few_lines : m.lines + k.lines ≤ 64
+
+-- the same of two files by their types
+abbrev pub joined_laid : LaidFile → LaidFile → System
+joined_laid first second = joined_in first.bytes.now first.model second.bytes.now second.model
+
+abbrev pub LaidAtHand : LaidFile → LaidFile → Type 0
+LaidAtHand first second = AtHand first.bytes.now first.model second.bytes.now second.model

@@ -1,5 +1,6 @@
 -- What joining makes: a new file that checking accepts and that stands for the joined system. So writing accepts that system.
 -- Assumes nothing.
+use Rattle.std.specs.Prelude.{Result}
 use mathlib.Core.Bool.{false}
 use mathlib.Core.List.{List}
 use mathlib.Core.Path.{◌≡◌, refl, sym, ◌∙◌, ap}
@@ -13,6 +14,7 @@ use lib.ListN.{length, get_or}
 use lib.Pow.{pow_mono}
 use Rattle.answers.specs.Answer.{Answer}
 use Rattle.answers.specs.Check.{unless}
+use Rattle.answers.specs.declared.Refusal.{Refusal}
 use Rattle.answers.proofs.Checks.{Passes, not_outside}
 use Rattle.lists.specs.Below.{AllBelow, none, more}
 use Rattle.lists.proofs.Below.{below_wider}
@@ -33,7 +35,6 @@ use Rattle.model.proofs.Refusals.{none_of}
 use Rattle.checker.proofs.Accepted.{accepted, formed}
 use Rattle.checker.proofs.Passed.{file_passes}
 use Rattle.writer.specs.Says.{write_number, written_answer}
-use Rattle.writer.specs.declared.Written.{Written}
 use Rattle.writer.proofs.Passed.{new_checks, passes_write}
 use Rattle.round_trip.proofs.RightFiles.{NewFile, passes_new, written_new}
 use Rattle.round_trip.proofs.ReadBack.{filled_front}
@@ -112,7 +113,7 @@ module _ (first second : List ℕ) (room : ℕ) (none : join_number first second
   joined_new = written_new (joined_of first second) room joined_writable (below_wider (pow_mono passed.can_join.few_lines) whole.words_within)
 
 -- Joining accepts two files. The bytes that it made, as many as it answers,
-module _ (first second buffer buffer' : List ℕ) (w : Written) (joins : JoinSays first second buffer w buffer') (ok : (written_answer w).number ≡ 0) where
+module _ (first second buffer buffer' : List ℕ) (w : Result ℕ Refusal) (joins : JoinSays first second buffer w buffer') (ok : (written_answer w).number ≡ 0) where
   pub accepts : join_number first second (length buffer) ≡ 0
   accepts = none_of _ _ _ joins.answer refl ok
 

@@ -2,10 +2,12 @@
 -- Each call is by plain rounds, by built-in trees, by universal lent trees or by the one-sided route over a universal tree, and they need not be alike.
 -- And the judgement of a file is one set, however it is judged.
 -- Assumes nothing.
+use Rattle.std.specs.Prelude.{Result}
 use mathlib.Core.List.{List}
 use mathlib.Core.Path.{◌≡◌, refl, sym, ◌∙◌, ap, ap₂}
 use Prim.Native.Nat.{ℕ}
 use lib.ListN.{length}
+use Rattle.answers.specs.declared.Refusal.{Refusal}
 use Rattle.sets.specs.Set.{full}
 use Rattle.sets.specs.SideBySide.{side_by_side}
 use Rattle.system.specs.System.{System}
@@ -14,7 +16,6 @@ use Rattle.model.proofs.Refusals.{none_of, none_over}
 use Rattle.routes.specs.Routes.{nested_set}
 use Rattle.routes.proofs.Joined.{joined_set}
 use Rattle.writer.specs.Says.{written_answer}
-use Rattle.writer.specs.declared.Written.{Written}
 use Rattle.joiner.specs.Says.{JoinSays}
 use Rattle.joiner.proofs.Passed.{join_passes}
 use Rattle.joined_judgement.specs.Judges.{file_made, Judges, plainly, by_built_trees, by_universal_trees, one_sidedly}
@@ -36,7 +37,7 @@ pub judgings_agree : {file : List ℕ} {set set' : ℕ} → Judges file set → 
 judgings_agree one other = judged_nested one ∙ sym (judged_nested other)
 
 pub side_by_side_lem :
-    (first second buffer buffer' : List ℕ) (w : Written) → JoinSays first second buffer w buffer' → (written_answer w).number ≡ 0
+    (first second buffer buffer' : List ℕ) (w : Result ℕ Refusal) → JoinSays first second buffer w buffer' → (written_answer w).number ≡ 0
     → (set set₁ set₂ : ℕ) → Judges (file_made w buffer') set → Judges first set₁ → Judges second set₂ → set ≡ side_by_side (lines_in first) set₁ set₂
 unfolding decode
 side_by_side_lem first second buffer buffer' w joins ok set set₁ set₂ whole one other =

@@ -1,7 +1,8 @@
 -- Joining two files (request W6): what it turns down, in the request's order, what it answers, and what it leaves in the lent buffer.
 -- Assumes nothing.
-use Rattle.std.specs.Prelude.{Bool, not, List, [], ◌∷◌, ◌++◌, ◌≡◌, ℕ, eqb, ltb, length, get_or}
+use Rattle.std.specs.Prelude.{Bool, not, List, [], ◌∷◌, ◌++◌, ◌≡◌, ℕ, eqb, ltb, length, get_or, Result}
 use Rattle.answers.specs.Answer.{Answer}
+use Rattle.answers.specs.declared.Refusal.{Refusal}
 use Rattle.answers.specs.Check.{Check, ◌if◌, first_of, unless}
 use Rattle.system.specs.System.{System}
 use Rattle.system.specs.Joined.{joined}
@@ -10,7 +11,6 @@ use Rattle.model.specs.Checks.{some_below}
 use Rattle.model.specs.Says.{made, filled}
 use Rattle.checker.specs.Checks.{file_checks}
 use Rattle.writer.specs.Says.{written_answer}
-use Rattle.writer.specs.declared.Written.{Written}
 
 -- the system of two files, joined
 abbrev pub joined_of : List ℕ → List ℕ → System
@@ -44,6 +44,6 @@ join_answer first second room = unless (join_number first second room) (made (fi
 abbrev pub JoinLeaves : List ℕ → List ℕ → List ℕ → List ℕ → Type 0
 JoinLeaves first second buffer buffer' = buffer' ≡ filled (join_number first second (length buffer)) (encode (joined_of first second)) buffer
 
-pub record JoinSays (first second buffer : List ℕ) (r : Written) (buffer' : List ℕ) : Type 0 where
+pub record JoinSays (first second buffer : List ℕ) (r : Result ℕ Refusal) (buffer' : List ℕ) : Type 0 where
   pub answer : written_answer r ≡ join_answer first second (length buffer)
   pub left : JoinLeaves first second buffer buffer'

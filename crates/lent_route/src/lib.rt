@@ -1,162 +1,110 @@
-// The route over lent trees, whose gaps stand in two slices. In each level w and needs are what the arguments of the levels above come to.
+// The route over lent trees, whose gaps stand in two slices.
 #![tactic(auto)]
 
-ghost use Rattle.std.specs.Prelude.{◌≡◌, true, false, ℕ, suc, ◌<◌, ◌≤◌, List, length, get_or};
-ghost use Rattle.system.specs.System.{sign};
-ghost use Rattle.trees.specs.Tree.{children};
-ghost use Rattle.model.specs.Held.{Held, system_in};
+ghost use Rattle.std.specs.Prelude.{◌≡◌, ℕ, ◌-◌, ◌<◌, ◌≤◌, List, length, get_or, drop};
+ghost use Rattle.model.specs.Files.{held_system};
 ghost use Rattle.evaluator.specs.ByLevels.{Carried, SomeCarry};
-ghost use Rattle.routes.specs.Parts.{Lent, Gives, least_of, greatest_of, restricted_from, queries_from, rise_from, rise_queries, fall_from, fall_queries};
+ghost use Rattle.lent_route.specs.Child.{NoneBefore, FirstChild};
+ghost use Rattle.lent_route.specs.LentProp.{Lent-prop};
+ghost use Rattle.routes.specs.Parts.{Lent, Gives, least_of, greatest_of, restricted_from, queries_from};
 
-use evaluator::{Pending, decide, lower_needs};
-use model::{Model, is_greatest};
-use routes::{Found, innermost_greatest, innermost_least};
+use evaluator::{Bounds, Carry, decide, lower_needs};
+use model::HeldFile;
+use routes::{Found, innermost_level};
+
+// A lent tree, or a part of one.
+#[derive(Clone, Copy)]
+pub struct LentTree<'a> {
+    pub height: usize,
+    pub gaps: &'a [u8],
+    pub ghost lent: { Lent height gaps.now } by { Lent-prop height gaps.now },
+}
 
 // Where the first gap of h stands, or the length where there is none.
 fn first_gap(gaps: &[u8], h: usize) -> usize
     ensures within { result ≤ length gaps.now }
-    ensures before { (i : ℕ) → i < result → get_or gaps.now i 0 ≡ h → ⊥ }
+    ensures before { NoneBefore gaps.now h result }
     ensures found { result < length gaps.now → get_or gaps.now result 0 ≡ h }
 {
-    let mut i = 0;
-    while i < gaps.len() {
-        if gaps[i] as usize == h {
+    for (i, gap) in gaps.iter().enumerate() {
+        if *gap as usize == h {
             return i;
         }
-        i += 1;
     }
-    i
+    gaps.len()
 }
 
-// A least level with `below` levels below it, over the children of u, of height hu; v, of height hv, is for the greatest levels below.
-#[cycle(lent_greatest_lent_least_lent_level)]
-fn lent_least(
-    file: &[u8],
-    m: Model,
-    below: usize,
-    w: Pending,
-    needs: &[u8; 64],
-    a: u64,
-    b: u64,
-    hu: usize,
-    u: &[u8],
-    hv: usize,
-    v: &[u8],
-) -> Found
-    requires held { Held file.now m × SomeCarry (system_in file.now m) (suc below) a b w needs.now }
-    requires below_nonzero { (0 < below) × (below < m.levels) × (sign (system_in file.now m) below ≡ false) }
-    requires hu_value { (hu ≡ suc (least_of (system_in file.now m) below)) × Lent hu u.now }
-    requires hv_value { (hv ≡ greatest_of (system_in file.now m) below) × Lent hv v.now }
-    ensures { let s = system_in file.now m in
-        let us = children hu u.now in
-        (ys : List ℕ) → Carried s (suc below) ys a b w needs.now → Gives result (rise_from s below ys a b us v.now) (rise_queries s below us v.now) }
-{
-    let mut low = a;
-    let mut count: u64 = 0;
-    let mut from = 0;
-    loop {
-        // The gaps of the next child, up to the next gap of the root or to the end.
-        let rest = &u[from..];
-        let cut = first_gap(rest, hu);
-        let first = &rest[..cut];
-        let decision = decide(file, m, below, low, low, b, w, needs);
-        let next = decision.pending;
-        let lowered = decision.lowered;
-        let child = if lowered == 0 {
-            lent_level(file, m, below, next, needs, low, b, hu - 1, first, hv, v)
-        } else {
-            let row = lower_needs(file, m, below, low, lowered, needs);
-            lent_level(file, m, below, next, &row, low, b, hu - 1, first, hv, v)
-        };
-        low = child.set;
-        count = count + child.count;
-        if cut == rest.len() {
-            return Found { set: low, count };
+impl<'a> LentTree<'a> {
+    // The root's first child among those that the gaps from `from` on have: the gaps up to the next gap of the root, or to the end.
+    fn child_from(self, from: usize) -> LentTree<'a>
+        requires { (0 < self.height) × (from ≤ length self.gaps.now) }
+        ensures height { result.height ≡ self.entry.height - 1 }
+        ensures gaps { FirstChild self.entry.height (drop from self.entry.gaps.now) result.gaps.now }
+    {
+        let rest = &self.gaps[from..];
+        let cut = first_gap(rest, self.height);
+        LentTree {
+            height: self.height - 1,
+            gaps: &rest[..cut],
         }
-        from = from + cut + 1;
     }
 }
 
-// A greatest level with `below` levels below it, over the children of v, of height hv; u, of height hu, is for the least levels below.
-#[cycle(lent_greatest_lent_least_lent_level)]
-fn lent_greatest(
-    file: &[u8],
-    m: Model,
-    below: usize,
-    w: Pending,
-    needs: &[u8; 64],
-    a: u64,
-    b: u64,
-    hu: usize,
-    u: &[u8],
-    hv: usize,
-    v: &[u8],
-) -> Found
-    requires held { Held file.now m × SomeCarry (system_in file.now m) (suc below) a b w needs.now }
-    requires below_nonzero { (0 < below) × (below < m.levels) × (sign (system_in file.now m) below ≡ true) }
-    requires hu_value { (hu ≡ least_of (system_in file.now m) below) × Lent hu u.now }
-    requires hv_value { (hv ≡ suc (greatest_of (system_in file.now m) below)) × Lent hv v.now }
-    ensures { let s = system_in file.now m in
-        let vs = children hv v.now in
-        (ys : List ℕ) → Carried s (suc below) ys a b w needs.now → Gives result (fall_from s below ys a b u.now vs) (fall_queries s below u.now vs) }
-{
-    let mut high = b;
-    let mut count: u64 = 0;
-    let mut from = 0;
-    loop {
-        let rest = &v[from..];
-        let cut = first_gap(rest, hv);
-        let first = &rest[..cut];
-        let decision = decide(file, m, below, high, a, high, w, needs);
-        let next = decision.pending;
-        let lowered = decision.lowered;
-        let child = if lowered == 0 {
-            lent_level(file, m, below, next, needs, a, high, hu, u, hv - 1, first)
-        } else {
-            let row = lower_needs(file, m, below, high, lowered, needs);
-            lent_level(file, m, below, next, &row, a, high, hu, u, hv - 1, first)
-        };
-        high = child.set;
-        count = count + child.count;
-        if cut == rest.len() {
-            return Found { set: high, count };
-        }
-        from = from + cut + 1;
-    }
-}
-
-// The restricted set of the levels k, .., 1 over the trees u and v, whose heights are the least and the greatest of these levels.
-#[cycle(lent_greatest_lent_least_lent_level)]
-pub fn lent_level(
-    file: &[u8],
-    m: Model,
+// The restricted set of the levels k, .., 1 over the trees u and v, whose heights are the least and the greatest of these levels. Level k goes over the children
+// of the tree of its sign: each moves its bound, and with it the value.
+pub fn lent_level<'a>(
+    file: HeldFile,
     k: usize,
-    w: Pending,
-    needs: &[u8; 64],
-    a: u64,
-    b: u64,
-    hu: usize,
-    u: &[u8],
-    hv: usize,
-    v: &[u8],
+    bounds: Bounds,
+    carry: Carry,
+    u: LentTree<'a>,
+    v: LentTree<'a>,
 ) -> Found
-    requires held { Held file.now m × SomeCarry (system_in file.now m) k a b w needs.now }
-    requires k_nonzero { (0 < k) × (k ≤ m.levels) }
-    requires hu_value { (hu ≡ least_of (system_in file.now m) k) × Lent hu u.now }
-    requires hv_value { (hv ≡ greatest_of (system_in file.now m) k) × Lent hv v.now }
-    ensures { let s = system_in file.now m in
-        (ys : List ℕ) → Carried s k ys a b w needs.now → Gives result (restricted_from s k ys a b u.now v.now) (queries_from s k u.now v.now) }
+    requires carried { SomeCarry (held_system file) k bounds.low bounds.high carry.pending carry.needs.now }
+    requires k_nonzero { (0 < k) × (k ≤ file.model.levels) }
+    requires heights { (u.height ≡ least_of (held_system file) k) × (v.height ≡ greatest_of (held_system file) k) }
+    ensures { let s = held_system file.entry in
+        let w = carry.entry in
+        let ut = u.entry.gaps.now in
+        let vt = v.entry.gaps.now in
+        (ys : List ℕ) → Carried s k ys bounds.low bounds.high w.pending w.needs.now → Gives result (restricted_from s k ys bounds.low bounds.high ut vt) (queries_from s k ut vt) }
 {
     let below = k - 1;
-    if is_greatest(file, m, below) {
-        if below == 0 {
-            innermost_greatest(file, m, w, needs, a, b, v.len() + 1)
+    let greatest = file.is_greatest(below);
+    let own = if greatest { v } else { u };
+    if below == 0 {
+        return innermost_level(file, bounds, carry, greatest, own.gaps.len() + 1);
+    }
+    let mut set = bounds.start(greatest);
+    let mut count: u64 = 0;
+    let mut from = 0;
+    loop {
+        let child = own.child_from(from);
+        let least = if greatest { u } else { child };
+        let most = if greatest { child } else { v };
+        let between = bounds.moved(greatest, set);
+        let decision = decide(file, below, set, between, carry);
+        let next = Carry {
+            pending: decision.pending,
+            ..carry
+        };
+        let found = if decision.lowered == 0 {
+            lent_level(file, below, between, next, least, most)
         } else {
-            lent_greatest(file, m, below, w, needs, a, b, hu, u, hv, v)
+            let needs = lower_needs(file, below, set, decision.lowered, carry.needs);
+            let lowered = Carry {
+                needs: &needs,
+                ..next
+            };
+            lent_level(file, below, between, lowered, least, most)
+        };
+        set = found.set;
+        count += found.count;
+        from += child.gaps.len();
+        if from == own.gaps.len() {
+            return Found { set, count };
         }
-    } else if below == 0 {
-        innermost_least(file, m, w, needs, a, b, u.len() + 1)
-    } else {
-        lent_least(file, m, below, w, needs, a, b, hu, u, hv, v)
+        // The gap between this child and the next.
+        from += 1;
     }
 }

@@ -5,3 +5,4 @@ pub mod Places
 pub mod Refusals
 pub mod Thresholds
 pub mod RoundTrip
+pub mod KindBytes

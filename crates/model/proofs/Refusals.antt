@@ -11,10 +11,8 @@ use Rattle.answers.specs.Answer.{Answer, refusal, over_ceiling, number_of}
 use Rattle.answers.specs.Check.{Check, first_of, unless, unless_over}
 use Rattle.answers.specs.declared.Refusal.{Refusal}
 use Rattle.answers.proofs.Checks.{first_before, unless_refused, number_positive}
-use Rattle.model.specs.Says.{reading_answer, sized, filled}
+use Rattle.model.specs.Says.{sized, filled}
 use Rattle.model.specs.declared.layout.Model.{Model}
-use Rattle.model.specs.declared.layout.Reading.{Reading}
-use Rattle.model.specs.declared.layout.Reading.TheVariants.{Accepted, Refused}
 
 -- an accepted answer, unless a number refuses, has that number
 pub unless_number : (e : ℕ) (a : Answer) → a.number ≡ 0 → (unless e a).number ≡ e
@@ -66,17 +64,18 @@ refused_under forecast {e} h other a = rw (ne_eqb e 10 other) (refused_answer h 
 pub refused_before : (cs ds : List Check) {r : Refusal} → RefusedAs (first_of cs) r → RefusedAs (first_of (cs ++ ds)) r
 refused_before cs ds {r} h = refused_by r (first_before cs ds h.positive ∙ sym h.number)
 
-module _ (e n d : ℕ) {a : Reading} (h : reading_answer a ≡ unless e (sized n d)) where
-  pub accepted_as : {m : Model} → a ≡ Accepted m → AcceptedAs e n d m
-  accepted_as {m} p = at e (ap reading_answer (sym p) ∙ h)
+-- what an answer tells, of `reading_answer` and of `held_answer` alike: in an arm the clause is this fact
+module _ (e n d : ℕ) where
+  pub accepted_as : {m : Model} → sized m.lines m.levels ≡ unless e (sized n d) → AcceptedAs e n d m
+  accepted_as {m} h = at e h
     where
       at : (e : ℕ) → sized m.lines m.levels ≡ unless e (sized n d) → AcceptedAs e n d m
       at zero q =
           record { number = refl; lines = ap (λ (x : Answer). x.lines) q; levels = ap (λ (x : Answer). x.levels) q }
       at (suc e) q = let z : 0 ≡ suc e = ap (λ (x : Answer). x.number) q in absurd (omega arith)
 
-  pub refused_as : {r : Refusal} → a ≡ Refused r → RefusedAs e r
-  refused_as {r} p = refused_by r (sym (ap (λ (x : Answer). x.number) (ap reading_answer (sym p) ∙ h) ∙ unless_number e (sized n d) refl))
+  pub refused_as : {r : Refusal} → refusal (number_of r) ≡ unless e (sized n d) → RefusedAs e r
+  refused_as {r} h = refused_by r (sym (ap (λ (x : Answer). x.number) h ∙ unless_number e (sized n d) refl))
 
 -- a number other than 0 leaves a lent list as it was
 pub filled_refused : {e : ℕ} (new old : List ℕ) → 0 < e → old ≡ filled e new old

@@ -1,6 +1,7 @@
 -- What is wrong with counts and with the contents of a system, in document 01's order (with request W4): the checks that checking a file and writing one share.
 -- Assumes nothing.
 use Rattle.std.specs.Prelude.{Bool, false, not, ◌||◌, List, [], ◌∷◌, ℕ, zero, suc, eqb, ltb, get_or}
+use Rattle.std.specs.List.{list_any}
 use Rattle.answers.specs.Check.{Check, ◌if◌, outside}
 use Rattle.sets.specs.Set.{full, is_within}
 use Rattle.system.specs.System.{System}
@@ -8,8 +9,7 @@ use Rattle.system.specs.Query.{words_of, operand_count}
 
 -- whether p holds of one of some numbers
 abbrev pub some : (ℕ → Bool) → List ℕ → Bool
-some p [] = false
-some p (x ∷ xs) = p x || some p xs
+some p xs = list_any p xs
 
 -- whether p holds of a number below n
 abbrev pub some_below : ℕ → (ℕ → Bool) → Bool

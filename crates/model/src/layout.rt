@@ -1,4 +1,4 @@
-// The model's type, its limits, where the sections of its file begin, and what reading answers.
+// The model's type, its limits, and where the sections of its file begin.
 ghost use Rattle.std.specs.Prelude.{◌≡◌, ◌≤◌};
 ghost use Rattle.answers.specs.Check.{first_of, unless};
 ghost use Rattle.model.specs.File.{kinds_at, words_at, old_words_at, file_length};
@@ -8,17 +8,10 @@ ghost use Rattle.model.specs.Says.{reading_answer, sized};
 use answers::Refusal;
 
 // A model's two counts. Its file is lent beside them.
-#[derive(Clone, Copy)]
+#[derive(Clone, Copy, Debug, PartialEq, Eq)]
 pub struct Model {
     pub lines: usize,
     pub levels: usize,
-}
-
-// What checking and reading answer.
-#[derive(Clone, Copy)]
-pub enum Reading {
-    Accepted(Model),
-    Refused(Refusal),
 }
 
 impl Model {
@@ -33,22 +26,16 @@ impl Model {
     pub const SIGNS_AT: usize = 16;
 
     // A model of so many lines and levels, if there may be so many.
-    pub fn new(lines: usize, levels: usize) -> Reading
+    pub fn new(lines: usize, levels: usize) -> Result<Model, Refusal>
         ensures { reading_answer result ≡ unless (first_of (count_checks lines levels)) (sized lines levels) }
     {
-        if lines == 0 {
-            return Reading::Refused(Refusal::Lines);
+        if lines == 0 || Model::MAX_LINES < lines {
+            return Err(Refusal::Lines);
         }
-        if Model::MAX_LINES < lines {
-            return Reading::Refused(Refusal::Lines);
+        if levels == 0 || Model::MAX_LEVELS < levels {
+            return Err(Refusal::Levels);
         }
-        if levels == 0 {
-            return Reading::Refused(Refusal::Levels);
-        }
-        if Model::MAX_LEVELS < levels {
-            return Reading::Refused(Refusal::Levels);
-        }
-        Reading::Accepted(Model { lines, levels })
+        Ok(Model { lines, levels })
     }
 
     pub fn kinds_at(self) -> usize

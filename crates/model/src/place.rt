@@ -1,8 +1,8 @@
 // Where a file at hand has its words, and the kind and the threshold of a line. Its own third offset tells which layout it has, and only here is it asked.
 ghost use Rattle.std.specs.Prelude.{◌≡◌, ◌≤◌, ◌<◌, length, get_or};
 ghost use Rattle.model.specs.File.{words_in, is_old, line_bytes};
-ghost use Rattle.model.specs.Held.{LaidOut, system_in};
 
+use super::held::LaidFile;
 use super::layout::Model;
 use numbers::u32_at;
 
@@ -35,23 +35,29 @@ pub fn line_bytes(file: &[u8], m: Model) -> usize
     1
 }
 
-pub fn kind(file: &[u8], m: Model, i: usize) -> u8
-    requires laid_out { LaidOut file.now m }
-    requires i_lt_lines { i < m.lines }
-    ensures { result ≡ get_or (system_in file.now m).kinds i 0 }
-{
-    let at = m.kinds_at() + line_bytes(file, m) * i;
-    file[at]
-}
+impl LaidFile<'_> {
+    ghost use Rattle.model.specs.Files.{laid_system};
 
-pub fn threshold(file: &[u8], m: Model, i: usize) -> u8
-    requires laid_out { LaidOut file.now m }
-    requires i_lt_lines { i < m.lines }
-    ensures { result ≡ get_or (system_in file.now m).thresholds i 0 }
-{
-    if is_old(file, m) {
-        return 0;
+    // The kind of line i.
+    pub fn kind(self, i: usize) -> u8
+        requires { i < self.model.lines }
+        ensures { result ≡ get_or (laid_system self.entry).kinds i 0 }
+    {
+        let m = self.model;
+        let at = m.kinds_at() + line_bytes(self.bytes, m) * i;
+        self.bytes[at]
     }
-    let at = m.kinds_at() + 1 + 2 * i;
-    file[at]
+
+    // The threshold of line i.
+    pub fn threshold(self, i: usize) -> u8
+        requires { i < self.model.lines }
+        ensures { result ≡ get_or (laid_system self.entry).thresholds i 0 }
+    {
+        let m = self.model;
+        if is_old(self.bytes, m) {
+            return 0;
+        }
+        let at = m.kinds_at() + 1 + 2 * i;
+        self.bytes[at]
+    }
 }

@@ -1,15 +1,18 @@
 // A level's sign, asked of a file at hand.
 ghost use Rattle.std.specs.Prelude.{◌≡◌, ◌<◌};
 ghost use Rattle.system.specs.System.{sign};
-ghost use Rattle.model.specs.Held.{Held, system_in};
 
+use super::held::HeldFile;
 use super::layout::Model;
 
-// Whether level k + 1 is greatest.
-pub fn is_greatest(file: &[u8], m: Model, k: usize) -> bool
-    requires held { Held file.now m }
-    requires k_lt_levels { k < m.levels }
-    ensures { result ≡ sign (system_in file.now m) k }
-{
-    file[Model::SIGNS_AT + k] == 1
+impl HeldFile<'_> {
+    ghost use Rattle.model.specs.Files.{held_system};
+
+    // Whether level k + 1 is greatest.
+    pub fn is_greatest(self, k: usize) -> bool
+        requires { k < self.model.levels }
+        ensures { result ≡ sign (held_system self.entry) k }
+    {
+        self.bytes[Model::SIGNS_AT + k] == 1
+    }
 }

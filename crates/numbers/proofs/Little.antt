@@ -2,11 +2,13 @@
 -- Assumes nothing.
 use mathlib.Core.List.{List, [], ◌∷◌, ◌++◌}
 use mathlib.Core.Path.{◌≡◌, sym, ◌∙◌, ap}
-use Prim.Native.Nat.{ℕ, ◌+◌, ◌*◌, ◌^◌, ◌≤◌, ◌<◌}
-use native.Mathlib.Nat.{mul_assoc, mul_comm, one-mul, pow-suc}
+use Prim.Native.Nat.{ℕ, zero, suc, ◌+◌, ◌*◌, ◌^◌, ◌≤◌, ◌<◌}
+use native.Mathlib.Nat.{zero-add, mul_assoc, mul_comm, one-mul, pow-suc}
+use native.Mathlib.Numerals.{add-one}
 use native.Mathlib.Omega.{arith}
 use lib.ListN.{length, get_or, take, drop, length-drop}
-use lib.Seq.{take-add, drop-drop, drop-cons, length-take-le}
+use lib.Seq.{take_all, take-add, drop-drop, drop-cons, length-take-le}
+use Rattle.std.specs.Int.{byte_worth, sum_through}
 use Rattle.numbers.specs.Numbers.{little, number_at}
 
 pub little_append : (xs ys : List ℕ) → little (xs ++ ys) ≡ little xs + 256 ^ length xs * little ys
@@ -32,11 +34,23 @@ pub number_one : (s : List ℕ) (at : ℕ) → at < length s → number_at s at 
 unfolding little
 number_one s at h = rw (drop-cons s at 0 h) (omega arith)
 
--- two bytes
-pub number_two : (s : List ℕ) (at : ℕ) → at + 2 ≤ length s → get_or s at 0 + 256 * get_or s (at + 1) 0 ≡ number_at s at 2
-number_two s at h =
-    omega (arith, number_split s at 1 1 (omega arith), number_one s at (omega arith), number_one s (at + 1) (omega arith))
+-- bytes added up, each as much as it is worth at its place, are the number that they say
+worth_sum : (bs : List ℕ) (k : ℕ) → k < length bs → sum_through (λ i. byte_worth i (get_or bs i 0)) k ≡ number_at bs 0 (suc k)
+worth_sum bs zero h = sym (number_one bs 0 h)
+worth_sum bs (suc k) h =
+    let split : number_at bs 0 (suc (suc k)) ≡ number_at bs 0 (suc k) + 256 ^ suc k * number_at bs (0 + suc k) 1 = ap (number_at bs 0) (sym (add-one (suc k))) ∙ number_split bs 0 (suc k) 1 (omega arith) in
+    let last : number_at bs (0 + suc k) 1 ≡ get_or bs (suc k) 0 = rw zero-add (number_one bs (suc k) h) in
+    omega (
+      arith,
+      worth_sum bs k (omega arith),
+      split,
+      ap (λ (x : ℕ). 256 ^ suc k * x) last,
+      mul_comm (256 ^ suc k) (get_or bs (suc k) 0),
+    )
 
--- twice as many bytes
-pub number_twice : (s : List ℕ) (at j : ℕ) → at + (j + j) ≤ length s → number_at s at j + 256 ^ j * number_at s (at + j) j ≡ number_at s at (j + j)
-number_twice s at j h = sym (number_split s at j j (omega arith))
+-- the same of bytes that were copied from an offset on
+pub copied_number : (s bytes : List ℕ) (at k : ℕ) → at + suc k ≤ length s → bytes ≡ take (suc k) (drop at s)
+    → sum_through (λ i. byte_worth i (get_or bytes i 0)) k ≡ number_at s at (suc k)
+copied_number s bytes at k h is =
+    let long : length bytes ≡ suc k = ap length is ∙ length-take-le (suc k) (drop at s) (omega (arith, length-drop at s)) in
+    worth_sum bytes k (omega arith) ∙ ap little (take_all (suc k) bytes (omega arith) ∙ is)

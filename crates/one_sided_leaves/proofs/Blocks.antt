@@ -155,8 +155,7 @@ module _ (sign : ℕ → Bool) (v : List ℕ) where
   places_of_arguments i d args e k h = sym (get_or-take d args k 0 h) ∙ ap (λ (ys : List ℕ). get_or ys k 0) e ∙ argument_at_lem sign v i d k h
 
 -- The first k arguments of leaf i + 1 are stored, and the blocks of the levels outside are those of the leaves start + 1 and last + 1.
-pub record Nested (sign : ℕ → Bool) (v : List ℕ) (i d : ℕ) (args : List ℕ) (start last height k : ℕ) : Type 0 where
-  pub within : k ≤ d
+pub record Nested (sign : ℕ → Bool) (v : List ℕ) (i : ℕ) (args : List ℕ) (start last height k : ℕ) : Type 0 where
   pub long : length args ≡ 8
   pub high : height ≡ greatest_among sign k
   pub start_within : start ≤ length v
@@ -165,20 +164,19 @@ pub record Nested (sign : ℕ → Bool) (v : List ℕ) (i d : ℕ) (args : List 
   pub lasts : (l : ℕ) → height ≤ l → last_leaf l v last ≡ last_leaf l v i
   pub stored : (j : ℕ) → j < k → get_or args j 0 ≡ argument_at sign v i j
 
-module _ (sign : ℕ → Bool) (v : List ℕ) (i d : ℕ) where
-  pub nested_none : (args : List ℕ) → length args ≡ 8 → i ≤ length v → Nested sign v i d args i i 0 0
+module _ (sign : ℕ → Bool) (v : List ℕ) (i : ℕ) where
+  pub nested_none : (args : List ℕ) → length args ≡ 8 → i ≤ length v → Nested sign v i args i i 0 0
   unfolding greatest_among
   nested_none args l h =
-      record { within = omega arith; long = l; high = refl; start_within = h; last_within = h; starts = λ m p. refl; lasts = λ m p. refl; stored = λ j p. absurd (omega arith) }
+      record { long = l; high = refl; start_within = h; last_within = h; starts = λ m p. refl; lasts = λ m p. refl; stored = λ j p. absurd (omega arith) }
 
-  module _ {args : List ℕ} {start last height k : ℕ} (n : Nested sign v i d args start last height k) (inside : k < d) (few : d ≤ 8) where
+  module _ {args : List ℕ} {start last height k : ℕ} (n : Nested sign v i args start last height k) (room : k < 8) where
     stored_more : (x : ℕ) → x ≡ argument_at sign v i k → (j : ℕ) → j < k + 1 → get_or (set args k x) j 0 ≡ argument_at sign v i j
     stored_more x e =
         below_more _ _ (λ j p. get_or-set_other args k j x 0 (λ q. omega arith) ∙ n.stored j p) (get_or-set_same args k x 0 (omega (arith, n.long)) ∙ e)
 
-    pub nested_greatest : (x : ℕ) → x ≡ last_over height v start → sign k ≡ true → Nested sign v i d (set args k x) x last (height + 1) (k + 1)
+    pub nested_greatest : (x : ℕ) → x ≡ last_over height v start → sign k ≡ true → Nested sign v i (set args k x) x last (height + 1) (k + 1)
     nested_greatest x e s = record {
-      within = omega arith;
       long = simp length-set n.long;
       high = omega (arith, n.high, greatest_at_greatest sign k s, ap (greatest_among sign) (add-one k));
       start_within = omega (arith, e, (last_over_is height v start).within, n.start_within);
@@ -190,11 +188,10 @@ module _ (sign : ℕ → Bool) (v : List ℕ) (i d : ℕ) where
           stored_more x (e ∙ n.starts height q ∙ ap (λ (l : ℕ). last_over l v i) n.high ∙ sym (argument_greatest sign v i k s));
     }
 
-    pub nested_least : (x : ℕ) → x ≡ last_leaf height v last → sign k ≡ false → Nested sign v i d (set args k x) start (x - 1) height (k + 1)
+    pub nested_least : (x : ℕ) → x ≡ last_leaf height v last → sign k ≡ false → Nested sign v i (set args k x) start (x - 1) height (k + 1)
     nested_least x e s =
         let up : suc (x - 1) ≡ last_leaf height v last = omega arith in
         record {
-          within = omega arith;
           long = simp length-set n.long;
           high = n.high ∙ sym (ap (greatest_among sign) (add-one k) ∙ greatest_at_least sign k s);
           start_within = n.start_within;
@@ -207,9 +204,9 @@ module _ (sign : ℕ → Bool) (v : List ℕ) (i d : ℕ) where
         }
 
   -- where they are told in other words
-  pub nested_as : {args args' : List ℕ} {start start' last last' height height' k : ℕ} → Nested sign v i d args start last height k
-      → args' ≡ args → start' ≡ start → last' ≡ last → height' ≡ height → Nested sign v i d args' start' last' height' k
+  pub nested_as : {args args' : List ℕ} {start start' last last' height height' k : ℕ} → Nested sign v i args start last height k
+      → args' ≡ args → start' ≡ start → last' ≡ last → height' ≡ height → Nested sign v i args' start' last' height' k
   nested_as n a b c e = rw (a, b, c, e) n
 
-  pub nested_end : {args : List ℕ} {start last height k : ℕ} → Nested sign v i d args start last height k → d ≤ 8 → d ≤ k → take d args ≡ arguments_of sign v i d []
-  nested_end {args} n few all = arguments_by_places sign v i d args (omega (arith, n.long)) (λ j h. n.stored j (omega arith))
+  pub nested_end : (d : ℕ) {args : List ℕ} {start last height k : ℕ} → Nested sign v i args start last height k → d ≤ 8 → d ≤ k → take d args ≡ arguments_of sign v i d []
+  nested_end d {args} n few all = arguments_by_places sign v i d args (omega (arith, n.long)) (λ j h. n.stored j (omega arith))

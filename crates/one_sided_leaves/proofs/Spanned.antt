@@ -323,14 +323,17 @@ owned_more from to y few o = record {
 
 module _ (file : List ℕ) (m : Model) (v : List ℕ) (few : length v ≤ 1023) where
   -- the last variable is the bound of no leaf
-  pub spanned_begun : (from to : List ℕ) (y : ℕ) → y ≡ leaves v → Owned from to y → Spanned file m v (set from y y) (set to y y) 0
-  spanned_begun from to y e o =
+  pub spanned_begun : (from to : List ℕ) → Owned from to (leaves v) → Spanned file m v (set from (leaves v) (leaves v)) (set to (leaves v) (leaves v)) 0
+  spanned_begun from to o =
       spanned_none file m v (set from y y) (set to y y)
       (λ z h. own z h (dec_lt z y))
       (λ z h. get_or-set_other to y z y 0 (λ q. omega arith) ∙ o.ends z (omega arith))
-      (ap (λ (z : ℕ). get_or (set to y y) z 0) (sym e) ∙ get_or-set_same to y y 0 (omega (arith, o.long_to)) ∙ e)
+      (get_or-set_same to y y 0 (omega (arith, o.long_to)))
     where
-      own : (z : ℕ) → z ≤ leaves v → Dec (z < y) → get_or (set from y y) z 0 ≡ z
+      y : ℕ
+      y = leaves v
+
+      own : (z : ℕ) → z ≤ y → Dec (z < y) → get_or (set from y y) z 0 ≡ z
       own z h (yes p) = get_or-set_other from y z y 0 (λ q. omega arith) ∙ o.begins z p
       own z h (no p) = let q : z ≡ y = omega arith in ap (λ (x : ℕ). get_or (set from y y) x 0) q ∙ get_or-set_same from y y 0 (omega (arith, o.long_from)) ∙ sym q
 

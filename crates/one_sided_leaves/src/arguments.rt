@@ -1,10 +1,9 @@
 // The arguments of the equations, leaf by leaf, from the gaps. Of the leaves in the order of the tree, those between two gaps over l are a block.
 ghost use Rattle.std.specs.Prelude.{◌≡◌, ◌≤◌, length, take};
-ghost use Rattle.model.specs.Held.{Held};
 ghost use Rattle.one_sided.specs.Explicit.{last_over, last_leaf};
 ghost use Rattle.one_sided_leaves.specs.Leaves.{Starts, Ends, Linked, arguments_in};
 
-use model::{Model, is_greatest};
+use model::{HeldFile, Model};
 
 // As many leaves as there can be, and one variable more.
 pub const LEAVES: usize = Model::MAX_GAPS + 1;
@@ -43,25 +42,21 @@ fn block_end(v: &[u8], over: &[u16; LEAVES], l: usize, i: usize) -> usize
 
 // For each gap the one before it that is over it, or 0. Gaps are counted from 1.
 pub fn find_starts(v: &[u8], before: &mut [u16; VARIABLES])
-    requires { (length v.now ≤ 1023) × (length before.old ≡ 1025) }
+    requires { length v.now ≤ 1023 }
     ensures { Starts v.now before.new (length v.now) }
 {
-    let mut i = 0;
-    while i < v.len() {
+    for i in 0..v.len() {
         let start = block_start(v, before, v[i] as usize, i);
         before[i + 1] = start as u16;
-        i += 1;
     }
 }
 
 // For each gap the next that is over it, or the number of the gaps. Gaps are counted from 0.
 pub fn find_ends(v: &[u8], over: &mut [u16; LEAVES])
-    requires { (length v.now ≤ 1023) × (length over.old ≡ 1024) }
+    requires { length v.now ≤ 1023 }
     ensures { Ends v.now over.new 0 }
 {
-    let mut i = v.len();
-    while 0 < i {
-        i -= 1;
+    for i in (0..v.len()).rev() {
         let end = block_end(v, over, v[i] as usize, i + 1);
         over[i] = (end - 1) as u16;
     }
@@ -70,25 +65,21 @@ pub fn find_ends(v: &[u8], over: &mut [u16; LEAVES])
 // The arguments of the equation of leaf i + 1. A greatest level reads the variable before the leaf's block of its height, a least level that of the
 // block's last leaf. The blocks of the levels outside have these as parts.
 pub fn find_arguments(
-    file: &[u8],
-    m: Model,
+    file: HeldFile,
     v: &[u8],
     before: &[u16; VARIABLES],
     over: &[u16; LEAVES],
     i: usize,
     args: &mut [usize; Model::MAX_LEVELS],
 )
-    requires held { Held file.now m × (i ≤ length v.now) × Linked v.now before.now over.now }
-    requires args_len { length args.old ≡ 8 }
-    ensures args_len_2 { length args.new ≡ 8 }
-    ensures args_after { take m.levels args.new ≡ arguments_in file.now m v.now i }
+    requires { (i ≤ length v.now) × Linked v.now before.now over.now }
+    ensures { take file.entry.model.levels args.new ≡ arguments_in file.entry.bytes.now file.entry.model v.now i }
 {
     let mut start = i;
     let mut last = i;
     let mut height = 0;
-    let mut k = 0;
-    while k < m.levels {
-        if is_greatest(file, m, k) {
+    for k in 0..file.model.levels {
+        if file.is_greatest(k) {
             start = block_start(v, before, height, start);
             args[k] = start;
             height += 1;
@@ -97,6 +88,5 @@ pub fn find_arguments(
             args[k] = end;
             last = end - 1;
         }
-        k += 1;
     }
 }

@@ -134,9 +134,6 @@ module _ (file : List ℕ) (m : Model) (v : List ℕ) where
     pub words_is : (y : ℕ) → y ≤ leaves v → get_or words y 0 ≡ value_in (sets n) cs y
     pub beyond : (k : ℕ) → leaves v < k → get_or words k 0 ≡ get_or words₀ k 0
     pub words_long : length words ≡ length words₀
-    pub state_long : length state ≡ 1025
-    pub flags_long : length flags ≡ 1024
-    pub queue_long : length queue ≡ 1024
     pub flagged : (i : ℕ) → i < leaves v → get_or flags i false ≡ due_now (get_or es i blank)
     pub queued : Queued (leaves v) flags queue number
     pub ahead : Ahead n f es (run (sets n) eqb f es (leaves v * n + 1)) due_now left count t cs
@@ -173,9 +170,9 @@ module _ (file : List ℕ) (m : Model) (v : List ℕ) where
 
     -- the first stage is to be made: every right side is due
     pub running_first : (x : ℕ) (words₀ : List ℕ) (flags₀ flags : List Bool) (queue : List ℕ) (number : ℕ) → x ≡ full n → leaves v < length words₀ → n ≤ 64
-        → length flags ≡ 1024 → length queue ≡ 1024 → Queued (leaves v) flags queue number → Flagged 0 (leaves v) flags₀ flags
+        → Queued (leaves v) flags queue number → Flagged 0 (leaves v) flags₀ flags
         → Running (set words₀ 0 x) (x ∷ replicate 1024 0) flags queue (set words₀ 0 x) number (leaves v * n + 1) 0
-    running_first x words₀ flags₀ flags queue number e h few long long' queued all =
+    running_first x words₀ flags₀ flags queue number e h few queued all =
         let w = leaves v in
         let small : w ≤ 1024 = omega (arith, tree.few) in
         let cs = take w (drop 1 words₀) in
@@ -190,9 +187,6 @@ module _ (file : List ℕ) (m : Model) (v : List ℕ) where
           words_is = words_at;
           beyond = λ k p. refl;
           words_long = refl;
-          state_long = ap suc (length-replicate {A = ℕ} 1024 0);
-          flags_long = long;
-          queue_long = long';
           flagged = λ i p. all.span i (omega arith) p;
           queued = queued;
           ahead = ahead_first n f es (query_monotone (system_in file m)) (w * n + 1) cs (omega (arith, equation_count, cs_long));
@@ -322,11 +316,10 @@ module _ (file : List ℕ) (m : Model) (v : List ℕ) where
 
           -- the next stage is to be made
           pub running_more : (state' : List ℕ) (flags' : List Bool) (queue' from to : List ℕ) (number' left' : ℕ) → left ≡ suc left' → (others ≡ 0 → ⊥)
-              → length state' ≡ 1025 → length flags' ≡ 1024 → length queue' ≡ 1024
               → ((y : ℕ) → y ≤ leaves v → get_or state' y 0 ≡ get_or words' y 0)
               → Spans file m v from to → FlaggedFor (leaves v) state words' from to flags' → Queued (leaves v) flags' queue' number'
               → Running words₀ state' flags' queue' words' number' left' (count + number)
-          running_more state' flags' queue' from to number' left' more some long₁ long₂ long₃ taken spans by queued = record {
+          running_more state' flags' queue' from to number' left' more some taken spans by queued = record {
             t = u;
             cs = u;
             due_now = due (sets n) eqb r.t u;
@@ -336,9 +329,6 @@ module _ (file : List ℕ) (m : Model) (v : List ℕ) where
             words_is = words_next;
             beyond = λ k h. made.beyond k h ∙ r.beyond k h;
             words_long = long ∙ r.words_long;
-            state_long = long₁;
-            flags_long = long₂;
-            queue_long = long₃;
             flagged = due_spans spans by;
             queued = queued;
             ahead =

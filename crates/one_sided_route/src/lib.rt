@@ -3,21 +3,21 @@
 
 ghost use Rattle.std.specs.Prelude.{◌≡◌, ◌+◌, ◌≤◌, length, drop};
 ghost use Rattle.trees.specs.Tree.{leaves};
-ghost use Rattle.model.specs.Held.{Held, system_in};
+ghost use Rattle.model.specs.Files.{held_system};
 ghost use Rattle.routes.specs.Parts.{Lent, Gives, greatest_of};
 ghost use Rattle.one_sided_route.specs.Route.{staged_run};
 
-use model::Model;
+use model::HeldFile;
 use one_sided_leaves::{LEAVES, VARIABLES, find_ends, find_spans, find_starts};
 use one_sided_stages::{append, evaluate_queue, take_over};
 use routes::Found;
 
 // The one-sided set of a file's system between empty and full over the lent tree v, with the evaluations made.
 // The variables stand in the first words: the full set, and then one for each leaf.
-pub fn one_sided(file: &[u8], m: Model, v: &[u8], words: &mut [u64]) -> Found
-    requires held { Held file.now m × Lent (greatest_of (system_in file.now m) m.levels) v.now }
+pub fn one_sided(file: HeldFile, v: &[u8], words: &mut [u64]) -> Found
+    requires lent { Lent (greatest_of (held_system file) file.model.levels) v.now }
     requires v_in_bounds { leaves v.now + 1 ≤ length words.old }
-    ensures result { let run = staged_run (system_in file.now m) v.now in
+    ensures result { let run = staged_run (held_system file.entry) v.now in
         Gives result run.value run.queries }
     ensures kept { drop (leaves v.now + 1) words.new ≡ drop (leaves v.now + 1) words.old }
 {
@@ -28,8 +28,8 @@ pub fn one_sided(file: &[u8], m: Model, v: &[u8], words: &mut [u64]) -> Found
     find_ends(v, &mut over);
     let mut from = [0u16; VARIABLES];
     let mut to = [0u16; VARIABLES];
-    find_spans(file, m, v, &before, &over, &mut from, &mut to);
-    let full = sets::full_set(m.lines);
+    find_spans(file, v, &before, &over, &mut from, &mut to);
+    let full = sets::full_set(file.model.lines);
     let mut state = [0u64; VARIABLES];
     state[0] = full;
     words[0] = full;
@@ -39,13 +39,12 @@ pub fn one_sided(file: &[u8], m: Model, v: &[u8], words: &mut [u64]) -> Found
     let mut number = append(0, leaves, &mut flags, &mut queue, 0, leaves);
     let mut changed = [0u16; LEAVES];
     // More stages than this cannot change anything.
-    let mut left = leaves * m.lines + 1;
+    let mut left = leaves * file.model.lines + 1;
     let mut count: u64 = 0;
     loop {
         count += number as u64;
         let others = evaluate_queue(
             file,
-            m,
             v,
             &before,
             &over,
@@ -56,10 +55,7 @@ pub fn one_sided(file: &[u8], m: Model, v: &[u8], words: &mut [u64]) -> Found
             words,
             &mut changed,
         );
-        if others == 0 {
-            break;
-        }
-        if left == 0 {
+        if others == 0 || left == 0 {
             break;
         }
         left -= 1;

@@ -4,27 +4,25 @@
 
 ghost use Rattle.std.specs.Prelude.{◌≡◌, ℕ, ◌+◌, ◌≤◌, ◌<◌, length, get_or};
 ghost use Rattle.trees.specs.Tree.{leaves};
-ghost use Rattle.model.specs.Held.{Held};
 ghost use Rattle.one_sided_leaves.specs.Leaves.{Linked};
 ghost use Rattle.one_sided_stages.specs.Stages.{right_side_at, Grows, Queued, NoneFlagged, Carried, Evaluated, Listed, Flagged, FlaggedFor};
 
-use model::Model;
+use model::{HeldFile, Model};
 use one_sided_leaves::{LEAVES, VARIABLES, find_arguments};
 
 // The right side of leaf i + 1: the query of the arguments' values, within the value of the variable i. The leaf's own variable holds a part of it already, so
 // that only the other lines are worked out.
 fn right_side(
-    file: &[u8],
-    m: Model,
+    file: HeldFile,
     v: &[u8],
     before: &[u16; VARIABLES],
     over: &[u16; LEAVES],
     state: &[u64; VARIABLES],
     i: usize,
 ) -> u64
-    requires held { Held file.now m × (i ≤ length v.now) × Linked v.now before.now over.now }
-    requires grows { Grows file.now m v.now state.now }
-    ensures { result ≡ right_side_at file.now m v.now state.now i }
+    requires linked { (i ≤ length v.now) × Linked v.now before.now over.now }
+    requires grows { Grows file.bytes.now file.model v.now state.now }
+    ensures { result ≡ right_side_at file.entry.bytes.now file.entry.model v.now state.now i }
 {
     let bound = state[i];
     let part = state[i + 1];
@@ -33,22 +31,19 @@ fn right_side(
         return part;
     }
     let mut args = [0usize; Model::MAX_LEVELS];
-    find_arguments(file, m, v, before, over, i, &mut args);
+    find_arguments(file, v, before, over, i, &mut args);
     let mut ys = [0u64; Model::MAX_LEVELS];
-    let mut k = 0;
-    while k < m.levels {
+    for k in 0..file.model.levels {
         let y = args[k];
         ys[k] = state[y];
-        k += 1;
     }
-    part | one_query::evaluate_lines(file, m, &ys, lines)
+    part | one_query::evaluate_lines(file, &ys, lines)
 }
 
 // The right sides of the leaves in the queue, at the values in the state, into the words. The variables that become other are listed; it says how many.
 // No leaf is flagged any more.
 pub fn evaluate_queue(
-    file: &[u8],
-    m: Model,
+    file: HeldFile,
     v: &[u8],
     before: &[u16; VARIABLES],
     over: &[u16; LEAVES],
@@ -59,26 +54,23 @@ pub fn evaluate_queue(
     words: &mut [u64],
     changed: &mut [u16; LEAVES],
 ) -> usize
-    requires held { Held file.now m × Linked v.now before.now over.now × Grows file.now m v.now state.now }
-    requires v_in_bounds { (leaves v.now < length words.old) × (length flags.old ≡ 1024) × (length changed.old ≡ 1024) }
+    requires linked { Linked v.now before.now over.now × Grows file.bytes.now file.model v.now state.now }
+    requires v_in_bounds { leaves v.now < length words.old }
     requires queued { Queued (leaves v.now) flags.old queue.now number × Carried (leaves v.now) flags.old state.now words.old }
-    ensures long { (length flags.new ≡ 1024) × (length changed.new ≡ 1024) }
     ensures cleared { NoneFlagged (leaves v.now) flags.new }
-    ensures evaluated { Evaluated file.now m v.now flags.old state.now words.old words.new }
+    ensures evaluated { Evaluated file.entry.bytes.now file.entry.model v.now flags.old state.now words.old words.new }
     ensures listed { Listed (leaves v.now) state.now words.new changed.new result }
 {
     let mut others = 0;
-    let mut p = 0;
-    while p < number {
+    for p in 0..number {
         let i = queue[p] as usize;
-        let value = right_side(file, m, v, before, over, state, i);
+        let value = right_side(file, v, before, over, state, i);
         flags[i] = false;
         words[i + 1] = value;
         if state[i + 1] != value {
             changed[others] = (i + 1) as u16;
             others += 1;
         }
-        p += 1;
     }
     others
 }
@@ -92,21 +84,18 @@ pub fn append(
     number: usize,
     w: usize,
 ) -> usize
-    requires to_le_w { (to ≤ w) × (w ≤ 1024) × (length flags.old ≡ 1024) × (length queue.old ≡ 1024) }
+    requires to_le_w { (to ≤ w) × (w ≤ 1024) }
     requires queued_2 { Queued w flags.old queue.old number }
-    ensures long { (length flags.new ≡ 1024) × (length queue.new ≡ 1024) }
     ensures queued { Queued w flags.new queue.new result }
     ensures flagged { Flagged from to flags.old flags.new }
 {
     let mut end = number;
-    let mut i = from as usize;
-    while i < to {
+    for i in from as usize..to {
         if !flags[i] {
             flags[i] = true;
             queue[end] = i as u16;
             end += 1;
         }
-        i += 1;
     }
     end
 }
@@ -124,22 +113,18 @@ pub fn take_over(
     queue: &mut [u16; LEAVES],
 ) -> usize
     requires v_len_bound { (length v.now ≤ 1023) × (leaves v.now < length words.now) }
-    requires state_len { (length state.old ≡ 1025) × (length flags.old ≡ 1024) × (length queue.old ≡ 1024) }
     requires listed { Listed (leaves v.now) state.old words.now changed.now others × NoneFlagged (leaves v.now) flags.old }
     requires by_index { (y : ℕ) → y ≤ leaves v.now → get_or to.now y 0 ≤ leaves v.now }
-    ensures long { (length state.new ≡ 1025) × (length flags.new ≡ 1024) × (length queue.new ≡ 1024) }
     ensures taken { (y : ℕ) → y ≤ leaves v.now → get_or state.new y 0 ≡ get_or words.now y 0 }
     ensures flagged { FlaggedFor (leaves v.now) state.old words.now from.now to.now flags.new }
     ensures queued { Queued (leaves v.now) flags.new queue.new result }
 {
     let w = v.len() + 1;
     let mut number = 0;
-    let mut p = 0;
-    while p < others {
+    for p in 0..others {
         let y = changed[p] as usize;
         state[y] = words[y];
         number = append(from[y], to[y] as usize, flags, queue, number, w);
-        p += 1;
     }
     number
 }

@@ -10,12 +10,9 @@ pub fn put_blanks(out: &mut [u8], at: usize, count: usize) -> usize
     requires { at + count ≤ length out.old }
     ensures { Puts at (blanks count) out.old out.new result }
 {
-    let mut i = 0;
-    while i < count {
-        out[at + i] = b' ';
-        i += 1;
-    }
-    at + count
+    let end = at + count;
+    out[at..end].fill(b' ');
+    end
 }
 
 // A decimal number of at most k places, set to the right in k places.

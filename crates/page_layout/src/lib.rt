@@ -3,12 +3,12 @@
 
 ghost use Rattle.std.specs.Prelude.{[], ◌∷◌, ◌++◌, ◌+◌, ◌-◌, ◌*◌, ◌≤◌, ◌<◌, length, get_or};
 ghost use Rattle.sets.specs.Set.{is_member};
-ghost use Rattle.model.specs.Held.{LaidOut, system_in};
+ghost use Rattle.model.specs.Files.{laid_system};
 ghost use Rattle.text.specs.Text.{Puts};
 ghost use Rattle.padding.specs.Padding.{blanks};
 ghost use Rattle.page_layout.specs.Page.{kind_word, mark, first_row, line_row, rows_of, page};
 
-use model::{Model, kind};
+use model::{Kind, LaidFile, Model};
 use padding::{put_blanks, put_right};
 use text::put;
 
@@ -46,12 +46,10 @@ fn put_kind(out: &mut [u8], at: usize, kind: u8) -> usize
     requires { at + 5 ≤ length out.old }
     ensures { Puts at (32 ∷ (kind_word kind ++ (32 ∷ []))) out.old out.new result }
 {
-    if kind == 0 {
-        put(out, at, b" any ")
-    } else if kind == 1 {
-        put(out, at, b" all ")
-    } else {
-        put(out, at, b" vot ")
+    match Kind::from(kind) {
+        Kind::Any => put(out, at, b" any "),
+        Kind::All => put(out, at, b" all "),
+        Kind::Vote => put(out, at, b" vot "),
     }
 }
 
@@ -80,29 +78,24 @@ fn put_line_row(out: &mut [u8], at: usize, i: usize, kind: u8, good: bool) -> us
 }
 
 // The rows of a file's lines, of which those in `good` are good.
-fn put_line_rows(file: &[u8], m: Model, good: u64, out: &mut [u8], at: usize) -> usize
-    requires laid_out { LaidOut file.now m }
-    requires lines_in_bounds { at + 41 * m.lines ≤ length out.old }
-    ensures { Puts at (rows_of m.lines (λ i. line_row i (get_or (system_in file.now m).kinds i 0) (is_member good i))) out.old out.new result }
+fn put_line_rows(file: LaidFile, good: u64, out: &mut [u8], at: usize) -> usize
+    requires lines_in_bounds { at + 41 * file.model.lines ≤ length out.old }
+    ensures { Puts at (rows_of file.entry.model.lines (λ i. line_row i (get_or (laid_system file.entry).kinds i 0) (is_member good i))) out.old out.new result }
 {
-    let n = m.lines;
     let mut next = at;
-    let mut i = 0;
-    while i < n {
-        next = put_line_row(out, next, i, kind(file, m, i), sets::member(good, i));
-        i += 1;
+    for i in 0..file.model.lines {
+        next = put_line_row(out, next, i, file.kind(i), sets::member(good, i));
     }
     next
 }
 
 // The page of a file with these good lines, at the front.
-pub fn put_page(file: &[u8], m: Model, good: u64, out: &mut [u8]) -> usize
-    requires laid_out { LaidOut file.now m }
-    requires le_lines { 1 ≤ m.lines }
-    requires lines_in_bounds { 41 * (m.lines + 1) ≤ length out.old }
-    ensures { Puts 0 (page (system_in file.now m) good) out.old out.new result }
+pub fn put_page(file: LaidFile, good: u64, out: &mut [u8]) -> usize
+    requires le_lines { 1 ≤ file.model.lines }
+    requires lines_in_bounds { 41 * (file.model.lines + 1) ≤ length out.old }
+    ensures { Puts 0 (page (laid_system file.entry) good) out.old out.new result }
 {
-    let share = met_lines::met_share(file, m, good);
-    let rows = put_first_row(out, m, share);
-    put_line_rows(file, m, good, out, rows)
+    let share = met_lines::met_share(file, good);
+    let rows = put_first_row(out, file.model, share);
+    put_line_rows(file, good, out, rows)
 }

@@ -5,7 +5,7 @@ ghost use Rattle.text.specs.Text.{Puts};
 ghost use Rattle.page_report.specs.Report.{made_text};
 
 use answers::Refusal;
-use bench_page::Paged;
+use solver::Unjudged;
 
 // The text of any input fits in so many bytes.
 pub const REPORT_SIZE: usize = bench_page::MAX_LENGTH;
@@ -18,12 +18,11 @@ pub fn report(file: &[u8], out: &mut [u8]) -> usize
     if out.len() < REPORT_SIZE {
         return 0;
     }
-    let made = bench_page::make_page(file, out);
-    match made {
-        Paged::Length(bytes) => bytes,
-        Paged::OverCeiling(forecast) => {
-            text::put_refused(out, 0, answers::number(Refusal::Ceiling), forecast)
+    match bench_page::make_page(file, out) {
+        Ok(length) => length,
+        Err(Unjudged::OverCeiling(forecast)) => {
+            text::put_refused(out, 0, u64::from(Refusal::Ceiling), forecast)
         }
-        Paged::Refused(e) => text::put_refused(out, 0, answers::number(e), 0),
+        Err(Unjudged::Refused(e)) => text::put_refused(out, 0, u64::from(e), 0),
     }
 }

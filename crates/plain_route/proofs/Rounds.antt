@@ -2,6 +2,7 @@
 -- and where a round does not fit under what is left the whole run does not.
 -- Assumes nothing.
 use mathlib.Core.Bool.{Bool, true, false}
+use Rattle.std.specs.Prelude.{Option, Some, None}
 use mathlib.Core.Path.{◌≡◌, refl, sym, ◌∙◌, ap}
 use Prim.Native.Nat.{ℕ, zero, suc, ◌-◌, ◌≤◌, ◌<◌}
 use native.Mathlib.Omega.{arith}
@@ -9,20 +10,24 @@ use borrow.Author.Tests.{le-leb, lt-leb, leb-true, leb-false, eq-eqb, ne_eqb}
 use lib.Dec.{eqb, leb}
 use Rattle.fixpoint.specs.Plain.{Run, then_rounds, settle}
 use Rattle.plain_route.specs.Under.{under}
-use Rattle.plain_route.specs.declared.Outcome.TheVariants.{Settled, Spent}
+use Rattle.plain_route.specs.declared.Settled.{Settled}
+
+-- the outcome of a run that fits
+abbrev pub settled : ℕ → ℕ → Option Settled
+settled set left = Some (record { set = set; left = left })
 
 -- a run that fits, and one that does not
-pub fits : (rest : ℕ) (r : Run ℕ) → r.queries ≤ rest → under rest r ≡ Settled r.value (rest - r.queries)
+pub fits : (rest : ℕ) (r : Run ℕ) → r.queries ≤ rest → under rest r ≡ settled r.value (rest - r.queries)
 fits rest r h = rw (le-leb r.queries rest h)
 
-pub exceeds : (rest : ℕ) (r : Run ℕ) → rest < r.queries → under rest r ≡ Spent
+pub exceeds : (rest : ℕ) (r : Run ℕ) → rest < r.queries → under rest r ≡ None
 exceeds rest r h = rw (lt-leb r.queries rest h)
 
 -- a run of one query
-pub one_query : (rest x : ℕ) → (rest ≡ 0 → ⊥) → under rest (record { value = x; queries = 1 }) ≡ Settled x (rest - 1)
+pub one_query : (rest x : ℕ) → (rest ≡ 0 → ⊥) → under rest (record { value = x; queries = 1 }) ≡ settled x (rest - 1)
 one_query rest x ne = fits rest (record { value = x; queries = 1 }) (omega arith)
 
-pub no_query : (rest x : ℕ) → rest ≡ 0 → under rest (record { value = x; queries = 1 }) ≡ Spent
+pub no_query : (rest x : ℕ) → rest ≡ 0 → under rest (record { value = x; queries = 1 }) ≡ None
 no_query rest x e = exceeds rest (record { value = x; queries = 1 }) (omega arith)
 
 -- what an outcome tells of the run
@@ -31,20 +36,21 @@ pub record Fits (rest : ℕ) (r : Run ℕ) (set left : ℕ) : Type 0 where
   pub value : r.value ≡ set
   pub over : rest - r.queries ≡ left
 
-never : {set left : ℕ} → Spent ≡ Settled set left → ⊥
+never : {set left : ℕ} → None ≡ settled set left → ⊥
 never e = let z : ◌≡◌ {A = ℕ} 0 1 = cc in omega arith
 
-pub settled_fits : (rest : ℕ) (r : Run ℕ) (set left : ℕ) → under rest r ≡ Settled set left → Fits rest r set left
+pub settled_fits : (rest : ℕ) (r : Run ℕ) (set left : ℕ) → under rest r ≡ settled set left → Fits rest r set left
 settled_fits rest r set left e = go (leb r.queries rest) refl
   where
     go : (t : Bool) → leb r.queries rest ≡ t → Fits rest r set left
     go true f =
         let h : r.queries ≤ rest = leb-true r.queries rest f in
-        let q : Settled r.value (rest - r.queries) ≡ Settled set left = sym (fits rest r h) ∙ e in
-        record { few = h; value = cc; over = cc }
+        let q : settled r.value (rest - r.queries) ≡ settled set left = sym (fits rest r h) ∙ e in
+        let same : ◌≡◌ {A = Settled} (record { set = r.value; left = rest - r.queries }) (record { set = set; left = left }) = cc in
+        record { few = h; value = ap (λ (z : Settled). z.set) same; over = ap (λ (z : Settled). z.left) same }
     go false f = absurd (never (sym (exceeds rest r (leb-false r.queries rest f)) ∙ e))
 
-pub spent_exceeds : (rest : ℕ) (r : Run ℕ) → under rest r ≡ Spent → rest < r.queries
+pub spent_exceeds : (rest : ℕ) (r : Run ℕ) → under rest r ≡ None → rest < r.queries
 spent_exceeds rest r e = go (leb r.queries rest) refl
   where
     go : (t : Bool) → leb r.queries rest ≡ t → rest < r.queries
@@ -61,7 +67,7 @@ goes_on rest r t set left f = go (leb t.queries left) refl
         let h : t.queries ≤ left = leb-true t.queries left e in
         let o : rest - r.queries ≡ left = f.over in
         let few : r.queries ≤ rest = f.few in
-        fits rest (then_rounds false r t) (omega arith) ∙ ap (Settled t.value) (omega arith) ∙ sym (fits left t h)
+        fits rest (then_rounds false r t) (omega arith) ∙ ap (settled t.value) (omega arith) ∙ sym (fits left t h)
     go false e =
         let h : left < t.queries = leb-false t.queries left e in
         let o : rest - r.queries ≡ left = f.over in
@@ -87,7 +93,7 @@ module _ (round : ℕ → Run ℕ) where
       go (suc F) h e = (F, h, e)
 
   -- a round that does not fit
-  pub round_spent : {run : Run ℕ} {ceiling x rest : ℕ} → Ahead run ceiling x rest → under rest (round x) ≡ Spent → under ceiling run ≡ Spent
+  pub round_spent : {run : Run ℕ} {ceiling x rest : ℕ} → Ahead run ceiling x rest → under rest (round x) ≡ None → under ceiling run ≡ None
   unfolding then_rounds
   round_spent {run} {ceiling} {x} {rest} a e =
       let (F, m, s) = one_round_lem a in
@@ -96,20 +102,20 @@ module _ (round : ℕ → Run ℕ) where
       over : rest < (round x).queries
       over = spent_exceeds rest (round x) e
 
-      go : (b : Bool) (t : Run ℕ) → under rest (then_rounds b (round x) t) ≡ Spent
+      go : (b : Bool) (t : Run ℕ) → under rest (then_rounds b (round x) t) ≡ None
       go true t = e
       go false t = exceeds rest (then_rounds false (round x) t) (omega (arith, over))
 
   -- a round that changes nothing
-  pub round_same : {run : Run ℕ} {ceiling x rest : ℕ} → Ahead run ceiling x rest → (set left : ℕ) → under rest (round x) ≡ Settled set left → set ≡ x
-      → under ceiling run ≡ Settled set left
+  pub round_same : {run : Run ℕ} {ceiling x rest : ℕ} → Ahead run ceiling x rest → (set left : ℕ) → under rest (round x) ≡ settled set left → set ≡ x
+      → under ceiling run ≡ settled set left
   unfolding then_rounds
   round_same {run} {ceiling} {x} {rest} a set left e q =
       let (F, m, s) = one_round_lem a in
       s ∙ rw (eq-eqb (round x).value x ((settled_fits rest (round x) set left e).value ∙ q)) e
 
   -- a round that changes something, after at least one query
-  pub round_more : {run : Run ℕ} {ceiling x rest : ℕ} → Ahead run ceiling x rest → 1 ≤ (round x).queries → (set left : ℕ) → under rest (round x) ≡ Settled set left → (set ≡ x → ⊥)
+  pub round_more : {run : Run ℕ} {ceiling x rest : ℕ} → Ahead run ceiling x rest → 1 ≤ (round x).queries → (set left : ℕ) → under rest (round x) ≡ settled set left → (set ≡ x → ⊥)
       → Ahead run ceiling set left
   round_more {run} {ceiling} {x} {rest} a p set left e ne =
       let f : Fits rest (round x) set left = settled_fits rest (round x) set left e in
@@ -123,7 +129,7 @@ module _ (round : ℕ → Run ℕ) where
             ∙ ap (λ (z : ℕ). under left (settle eqb round F z)) f.value;
       }
 
-  pub round_less : (x rest : ℕ) → 1 ≤ (round x).queries → (set left : ℕ) → under rest (round x) ≡ Settled set left → left < rest
+  pub round_less : (x rest : ℕ) → 1 ≤ (round x).queries → (set left : ℕ) → under rest (round x) ≡ settled set left → left < rest
   round_less x rest p set left e =
       let f : Fits rest (round x) set left = settled_fits rest (round x) set left e in
       let few : (round x).queries ≤ rest = f.few in

@@ -1,11 +1,12 @@
 -- Reading: what it turns down besides what checking does, what it answers, and what it leaves in the lent slices.
 -- Assumes nothing.
-use Rattle.std.specs.Prelude.{List, [], ◌∷◌, ◌++◌, ◌≡◌, ℕ, ◌*◌, ltb, length}
+use Rattle.std.specs.Prelude.{List, [], ◌∷◌, ◌++◌, ◌≡◌, ℕ, ◌*◌, ltb, length, Result}
 use Rattle.answers.specs.Answer.{Answer}
+use Rattle.answers.specs.declared.Refusal.{Refusal}
 use Rattle.answers.specs.Check.{Check, ◌if◌, first_of, unless}
 use Rattle.model.specs.File.{lines_in, levels_in, decode}
 use Rattle.model.specs.Says.{sized, reading_answer, filled}
-use Rattle.model.specs.declared.layout.Reading.{Reading}
+use Rattle.model.specs.declared.layout.Model.{Model}
 use Rattle.checker.specs.Checks.{file_checks}
 
 -- 12, for slices of these lengths that are to hold the signs, kinds, thresholds and words of a file
@@ -32,6 +33,6 @@ pub record ReadLeaves (file signs kinds thresholds words signs' kinds' threshold
   pub thresholds_left : thresholds' ≡ filled (read_number file (length signs) (length kinds) (length thresholds) (length words)) (decode file).thresholds thresholds
   pub words_left : words' ≡ filled (read_number file (length signs) (length kinds) (length thresholds) (length words)) (decode file).words words
 
-pub record ReadSays (file signs kinds thresholds words : List ℕ) (r : Reading) (signs' kinds' thresholds' words' : List ℕ) : Type 0 where
+pub record ReadSays (file signs kinds thresholds words : List ℕ) (r : Result Model Refusal) (signs' kinds' thresholds' words' : List ℕ) : Type 0 where
   pub answer : reading_answer r ≡ read_answer file (length signs) (length kinds) (length thresholds) (length words)
   pub left : ReadLeaves file signs kinds thresholds words signs' kinds' thresholds' words'

@@ -5,10 +5,12 @@ use mathlib.Core.Bool.{false}
 use mathlib.Core.List.{List, ◌++◌}
 use mathlib.Core.Path.{◌≡◌, refl, sym, ◌∙◌, ap, ap₂}
 use Prim.Native.Nat.{ℕ, ◌*◌, ◌^◌, ◌≤◌}
+use borrow.Author.Tests.{le-ltb}
 use lib.ListN.{length, take}
 use lib.Seq.{take_at}
-use borrow.Author.Tests.{le-ltb}
+use Rattle.std.specs.Prelude.{Result}
 use Rattle.answers.specs.Answer.{Answer}
+use Rattle.answers.specs.declared.Refusal.{Refusal}
 use Rattle.answers.specs.Check.{unless}
 use Rattle.answers.proofs.Checks.{passes_both, passes_none, none_first}
 use Rattle.system.specs.System.{System, system_of}
@@ -17,8 +19,7 @@ use Rattle.checker.specs.Checks.{file_checks, file_number}
 use Rattle.reader.specs.Says.{room_checks, read_number, ReadSays}
 use Rattle.writer.specs.Says.{write_number, written_answer, WriteSays}
 use Rattle.model.specs.Says.{sized, made, reading_answer, filled}
-use Rattle.model.specs.declared.layout.Reading.{Reading}
-use Rattle.writer.specs.declared.Written.{Written}
+use Rattle.model.specs.declared.layout.Model.{Model}
 use Rattle.lists.specs.Below.{AllBelow}
 use Rattle.model.proofs.Refusals.{none_of}
 use Rattle.model.proofs.RoundTrip.{old_in, encode_length, encode_lines, encode_levels}
@@ -46,7 +47,7 @@ pub filled_front : {new left : List ℕ} {e n : ℕ} (old : List ℕ) → left �
 filled_front {new} {n = n} old says none long = ap (take n) (says ∙ ap (λ (e : ℕ). filled e new old) none) ∙ take_at new _ n long
 
 -- what a model's slices hold after reading
-pub record Holds (m : System) (r : Reading) (signs kinds thresholds words : List ℕ) : Type 0 where
+pub record Holds (m : System) (r : Result Model Refusal) (signs kinds thresholds words : List ℕ) : Type 0 where
   pub counts : reading_answer r ≡ sized m.lines m.levels
   pub signs_read : take m.levels signs ≡ m.signs
   pub kinds_read : take m.lines kinds ≡ m.kinds
@@ -58,7 +59,7 @@ abbrev pub handed_back : ℕ → ℕ → List ℕ → List ℕ → List ℕ → 
 handed_back n d signs kinds thresholds words = system_of n d (take d signs) (take n kinds) (take n thresholds) (take (n * d) words)
 
 holds_system :
-    (m : System) (r : Reading) (signs kinds thresholds words : List ℕ) → Holds m r signs kinds thresholds words
+    (m : System) (r : Result Model Refusal) (signs kinds thresholds words : List ℕ) → Holds m r signs kinds thresholds words
     → (n d : ℕ) → reading_answer r ≡ sized n d → handed_back n d signs kinds thresholds words ≡ m
 holds_system m r signs kinds thresholds words held n d ok =
     let counts = sym ok ∙ held.counts in
@@ -74,7 +75,7 @@ holds_system m r signs kinds thresholds words held n d ok =
 
 -- a file is read
 module _
-    (file signs kinds thresholds words signs' kinds' thresholds' words' : List ℕ) (r : Reading)
+    (file signs kinds thresholds words signs' kinds' thresholds' words' : List ℕ) (r : Result Model Refusal)
     (read : ReadSays file signs kinds thresholds words r signs' kinds' thresholds' words') where
   -- what reading hands back is the model that the file stands for
   read_holds : read_number file (length signs) (length kinds) (length thresholds) (length words) ≡ 0 → Holds (decode file) r signs' kinds' thresholds' words'
@@ -104,7 +105,7 @@ module _
     size = ap (λ (m : System). file_length m.lines m.levels) system
 
     -- and what it filled is written.
-    module _ (buffer buffer' : List ℕ) (w : Written) (wrote : WriteSays (handed_back n d signs' kinds' thresholds' words') buffer w buffer') where
+    module _ (buffer buffer' : List ℕ) (w : Result ℕ Refusal) (wrote : WriteSays (handed_back n d signs' kinds' thresholds' words') buffer w buffer') where
       -- Into a buffer that is long enough for a new file, that makes the new file of the system that the file stands for.
       pub read_then_written : file_length n d ≤ length buffer → (written_answer w ≡ made (file_length n d)) × (take (file_length n d) buffer' ≡ encode (decode file))
       read_then_written long =
@@ -127,8 +128,8 @@ module _
 
 -- Writing accepts a model. Reading the bytes that it made, into slices that are long enough, hands the model back.
 pub written_then_read :
-    (m : System) (buffer buffer' : List ℕ) (w : Written) → WriteSays m buffer w buffer' → (written_answer w).number ≡ 0 → AllBelow (2 ^ 64) m.words
-    → (signs kinds thresholds words signs' kinds' thresholds' words' : List ℕ) (r : Reading)
+    (m : System) (buffer buffer' : List ℕ) (w : Result ℕ Refusal) → WriteSays m buffer w buffer' → (written_answer w).number ≡ 0 → AllBelow (2 ^ 64) m.words
+    → (signs kinds thresholds words signs' kinds' thresholds' words' : List ℕ) (r : Result Model Refusal)
     → ReadSays (take (file_length m.lines m.levels) buffer') signs kinds thresholds words r signs' kinds' thresholds' words'
     → m.levels ≤ length signs → m.lines ≤ length kinds → m.lines ≤ length thresholds → m.lines * m.levels ≤ length words
     → Holds m r signs' kinds' thresholds' words'

@@ -1,52 +1,55 @@
 -- A level that goes over the children of its tree in a loop: what those passed give, with one child more.
 -- Assumes nothing.
+use mathlib.Core.Bool.{Bool, true, false, cond}
 use mathlib.Core.List.{List, [], ◌∷◌, ◌++◌}
 use mathlib.Core.Path.{◌≡◌}
 use Prim.Native.Nat.{ℕ, suc, ◌≤◌}
 use native.Mathlib.Omega.{arith}
-use Rattle.fixpoint.specs.Restricted.{sum_over}
 use Rattle.fixpoint.proofs.Restricted.{fall_is_rise}
 use Rattle.system.specs.System.{System}
 use Rattle.evaluator.specs.ByLevels.{Carried, Lowered, Next}
+use Rattle.evaluator.specs.Sides.{start_of, moved}
+use Rattle.evaluator.specs.declared.Bounds.{Bounds}
 use Rattle.evaluator.specs.declared.Pending.{Pending}
 use Rattle.evaluator.specs.declared.Decision.{Decision}
 use Rattle.routes.specs.declared.shared.Found.{Found}
-use Rattle.routes.specs.Parts.{Gives, restricted_from, queries_from}
+use Rattle.routes.specs.Parts.{queries_from, level_queries}
 use Rattle.routes.proofs.OverChildren.{then, rises_none, rises_child, sum_append}
 use Rattle.routes.proofs.Inside.{carried_low, carried_high}
-use Rattle.routes.proofs.Levels.{LeastGives, GreatestGives, least_inside, greatest_inside}
+use Rattle.routes.proofs.Levels.{LevelGives, OverGives, over_inside}
 
-module _ (s : System) (k : ℕ) (ys : List ℕ) (a b : ℕ) where
-  pub least_begin : (v : List ℕ) → LeastGives s k ys a b [] v (record { set = a; count = 0 })
-  least_begin v = rises_none _ _ _ _ a
+module _ (s : System) (k : ℕ) (ys : List ℕ) (bounds : Bounds) (u v : List ℕ) where
+  pub none_passed : (greatest : Bool) → OverGives s k ys bounds u v greatest [] (record { set = start_of greatest bounds; count = 0 })
+  none_passed true = rw fall_is_rise (rises_none _ _ _ _ bounds.high)
+  none_passed false = rises_none _ _ _ _ bounds.low
 
-  pub greatest_begin : (u : List ℕ) → GreatestGives s k ys a b u [] (record { set = b; count = 0 })
-  greatest_begin u = rw fall_is_rise (rises_none _ _ _ _ b)
+  -- the level below goes over the child in place of this level's tree
+  pub child_passed : (greatest : Bool) (r c : Found) (passed : List (List ℕ)) (w : List ℕ) → OverGives s k ys bounds u v greatest passed r
+      → LevelGives s k (r.set ∷ ys) (moved greatest bounds r.set) (cond greatest u w) (cond greatest w v) c
+      → OverGives s k ys bounds u v greatest (passed ++ w ∷ []) (then r c)
+  child_passed true r c passed w f g = rw fall_is_rise (rises_child _ _ _ _ r c bounds.high passed w (rw fall_is_rise at f) g)
+  child_passed false r c passed w f g = rises_child _ _ _ _ r c bounds.low passed w f g
 
-  pub least_child : (r c : Found) (passed : List (List ℕ)) (w v : List ℕ) → LeastGives s k ys a b passed v r
-      → Gives c (restricted_from s k (r.set ∷ ys) r.set b w v) (queries_from s k w v) → LeastGives s k ys a b (passed ++ w ∷ []) v (then r c)
-  least_child r c passed w v f g = rises_child _ _ _ _ r c a passed w f g
-
-  pub greatest_child : (r c : Found) (passed : List (List ℕ)) (w u : List ℕ) → GreatestGives s k ys a b u passed r
-      → Gives c (restricted_from s k (r.set ∷ ys) a r.set u w) (queries_from s k u w) → GreatestGives s k ys a b u (passed ++ w ∷ []) (then r c)
-  greatest_child r c passed w u f g = rw fall_is_rise (rises_child _ _ _ _ r c b passed w (rw fall_is_rise at f) g)
+  -- what is carried holds between the bounds that this level has come to
+  pub carried_moved : {w : Pending} (needs : List ℕ) (greatest : Bool) (ts : List (List ℕ)) (r : Found) → OverGives s k ys bounds u v greatest ts r
+      → let between = moved greatest bounds r.set in
+      Carried s (suc k) ys bounds.low bounds.high w needs → Carried s (suc k) ys between.low between.high w needs
+  carried_moved needs true ts r g = carried_high needs (over_inside s k ys bounds u v true ts r g)
+  carried_moved needs false ts r g = carried_low needs (over_inside s k ys bounds u v false ts r g)
 
 -- What is left to the level below once this level's value so far is decided beside the arguments above, with a row that this value lowers.
-module _ {s : System} {k a b : ℕ} {w : Pending} {needs : List ℕ} {r : Found} {d : Decision} (row : List ℕ) where
-  pub least_next : (us : List (List ℕ)) (v : List ℕ) → ((ys : List ℕ) → Carried s (suc k) ys a b w needs → LeastGives s k ys a b us v r)
-      → ((ys : List ℕ) → Carried s (suc k) ys r.set b w needs → Next s k r.set ys r.set b needs d)
-      → Lowered s k r.set d.lowered needs row → (ys : List ℕ) → Carried s (suc k) ys a b w needs → Carried s k (r.set ∷ ys) r.set b d.pending row
-  least_next us v gives decided lower ys c =
-      let next = decided ys (carried_low needs (least_inside s k ys a b us v r (gives ys c)) c) in
-      (next.decided, next.still_needs_lem row lower)
-
-  pub greatest_next : (u : List ℕ) (vs : List (List ℕ)) → ((ys : List ℕ) → Carried s (suc k) ys a b w needs → GreatestGives s k ys a b u vs r)
-      → ((ys : List ℕ) → Carried s (suc k) ys a r.set w needs → Next s k r.set ys a r.set needs d)
-      → Lowered s k r.set d.lowered needs row → (ys : List ℕ) → Carried s (suc k) ys a b w needs → Carried s k (r.set ∷ ys) a r.set d.pending row
-  greatest_next u vs gives decided lower ys c =
-      let next = decided ys (carried_high needs (greatest_inside s k ys a b u vs r (gives ys c)) c) in
-      (next.decided, next.still_needs_lem row lower)
+pub next_carried : {s : System} {k : ℕ} {bounds between : Bounds} {w : Pending} {needs : List ℕ} {r : Found} {d : Decision} (row : List ℕ) (greatest : Bool)
+    (ts : List (List ℕ)) (u v : List ℕ) → between ≡ moved greatest bounds r.set
+    → ((ys : List ℕ) → Carried s (suc k) ys bounds.low bounds.high w needs → OverGives s k ys bounds u v greatest ts r)
+    → ((ys : List ℕ) → Carried s (suc k) ys between.low between.high w needs → Next s k r.set ys between.low between.high needs d)
+    → Lowered s k r.set d.lowered needs row
+    → (ys : List ℕ) → Carried s (suc k) ys bounds.low bounds.high w needs → Carried s k (r.set ∷ ys) between.low between.high d.pending row
+next_carried {s} {k} {bounds} {between} {needs = needs} {r} row greatest ts u v e gives decided lower ys c =
+    let next = decided ys (rw e (carried_moved s k ys bounds u v needs greatest ts r (gives ys c) c)) in
+    (next.decided, next.still_needs_lem row lower)
 
 -- the queries of the children passed are among those of all
-pub passed_few : (count : List ℕ → ℕ) {all : List (List ℕ)} (passed others : List (List ℕ)) → all ≡ passed ++ others → sum_over count passed ≤ sum_over count all
-passed_few count passed others e = rw e (omega (arith, sum_append count passed others))
+pub passed_few : (s : System) (k : ℕ) (u v : List ℕ) (greatest : Bool) {all : List (List ℕ)} (passed others : List (List ℕ)) → all ≡ passed ++ others
+    → level_queries greatest s k passed u v ≤ level_queries greatest s k all u v
+passed_few s k u v true passed others e = rw e (omega (arith, sum_append (λ w. queries_from s k u w) passed others))
+passed_few s k u v false passed others e = rw e (omega (arith, sum_append (λ w. queries_from s k w v) passed others))

@@ -1,6 +1,6 @@
 -- What the evaluators compute on the way: the definitions of Routes.antt with some levels left.
 -- Assumes nothing.
-use Rattle.std.specs.Prelude.{List, ◌∷◌, ◌≡◌, ℕ, ◌≤◌, eqb, length}
+use Rattle.std.specs.Prelude.{Bool, true, false, List, ◌∷◌, ◌≡◌, ℕ, ◌≤◌, eqb, length}
 use Rattle.system.specs.System.{System, sign}
 use Rattle.system.specs.Query.{query}
 use Rattle.trees.specs.Tree.{IsTree}
@@ -8,6 +8,7 @@ use Rattle.fixpoint.specs.Levels.{least_among, greatest_among}
 use Rattle.fixpoint.specs.Restricted.{restricted, restricted_queries, rise, fall, sum_over}
 use Rattle.fixpoint.specs.Plain.{Run, plain}
 use Rattle.fixpoint.specs.Sets.{sets}
+use Rattle.evaluator.specs.declared.Bounds.{Bounds}
 use Rattle.routes.specs.declared.shared.Found.{Found}
 
 -- the numbers of least and of greatest levels among the first k
@@ -41,6 +42,15 @@ fall_from s below xs a b u vs = fall (λ c. restricted_from s below (c ∷ xs)) 
 
 abbrev pub fall_queries : System → ℕ → List ℕ → List (List ℕ) → ℕ
 fall_queries s below u vs = sum_over (λ w. queries_from s below u w) vs
+
+-- a level by its sign, over the children ts of its tree: of v for a greatest level, and of u for a least one
+abbrev pub level_from : Bool → System → ℕ → List ℕ → Bounds → List (List ℕ) → List ℕ → List ℕ → ℕ
+level_from true s below xs bounds ts u v = fall_from s below xs bounds.low bounds.high u ts
+level_from false s below xs bounds ts u v = rise_from s below xs bounds.low bounds.high ts v
+
+abbrev pub level_queries : Bool → System → ℕ → List (List ℕ) → List ℕ → List ℕ → ℕ
+level_queries true s below ts u v = fall_queries s below u ts
+level_queries false s below ts u v = rise_queries s below ts v
 
 -- a set with its queries is this set with these
 pub record Gives (r : Found) (set count : ℕ) : Type 0 where

@@ -1,66 +1,34 @@
-// The innermost level: no level is below it, so every child of its tree is a leaf and takes one query. w and needs are what the arguments of the
-// levels above come to.
+// The innermost level: no level is below it, so every child of its tree is a leaf and takes one query.
 ghost use Rattle.std.specs.Prelude.{List, [], ℕ, ◌<◌, ◌^◌, replicate};
-ghost use Rattle.model.specs.Held.{Held, system_in};
+ghost use Rattle.model.specs.Files.{held_system};
 ghost use Rattle.evaluator.specs.ByLevels.{Carried};
-ghost use Rattle.routes.specs.Parts.{Gives, rise_from, rise_queries, fall_from, fall_queries};
+ghost use Rattle.routes.specs.Parts.{Gives, level_from, level_queries};
 
 use super::shared::Found;
-use evaluator::{Pending, settle};
-use model::Model;
+use evaluator::{Bounds, Carry, settle};
+use model::HeldFile;
 
-// A least innermost level over so many leaves, whatever the tree of the greatest levels.
-pub fn innermost_least(
-    file: &[u8],
-    m: Model,
-    w: Pending,
-    needs: &[u8; 64],
-    a: u64,
-    b: u64,
+// An innermost level of a sign over so many leaves, whatever the tree of the levels of the other sign.
+pub fn innermost_level(
+    file: HeldFile,
+    bounds: Bounds,
+    carry: Carry,
+    greatest: bool,
     leaves: usize,
 ) -> Found
-    requires held { Held file.now m × (0 < m.levels) }
-    requires undecided_bound { w.undecided < 2 ^ m.lines }
-    ensures { let s = system_in file.now m in
-        let us = replicate leaves [] in
-        (v ys : List ℕ) → Carried s 1 ys a b w needs.now → Gives result (rise_from s 0 ys a b us v) (rise_queries s 0 us v) }
+    requires { (0 < file.model.levels) × (carry.pending.undecided < 2 ^ file.model.lines) }
+    ensures { let s = held_system file.entry in
+        let w = carry.entry in
+        let ts = replicate leaves [] in
+        (u v ys : List ℕ) → Carried s 1 ys bounds.low bounds.high w.pending w.needs.now
+        → Gives result (level_from greatest s 0 ys bounds ts u v) (level_queries greatest s 0 ts u v) }
 {
-    let mut low = a;
-    let mut i = 0;
-    while i < leaves {
-        low = settle(file, m, low, low, b, w, needs);
-        i += 1;
+    let mut set = bounds.start(greatest);
+    for _ in 0..leaves {
+        set = settle(file, set, bounds.moved(greatest, set), carry);
     }
     Found {
-        set: low,
-        count: i as u64,
-    }
-}
-
-// A greatest innermost level likewise.
-pub fn innermost_greatest(
-    file: &[u8],
-    m: Model,
-    w: Pending,
-    needs: &[u8; 64],
-    a: u64,
-    b: u64,
-    leaves: usize,
-) -> Found
-    requires held { Held file.now m × (0 < m.levels) }
-    requires undecided_bound { w.undecided < 2 ^ m.lines }
-    ensures { let s = system_in file.now m in
-        let vs = replicate leaves [] in
-        (u ys : List ℕ) → Carried s 1 ys a b w needs.now → Gives result (fall_from s 0 ys a b u vs) (fall_queries s 0 u vs) }
-{
-    let mut high = b;
-    let mut i = 0;
-    while i < leaves {
-        high = settle(file, m, high, a, high, w, needs);
-        i += 1;
-    }
-    Found {
-        set: high,
-        count: i as u64,
+        set,
+        count: leaves as u64,
     }
 }

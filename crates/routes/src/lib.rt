@@ -4,5 +4,5 @@
 mod innermost;
 mod shared;
 
-pub use innermost::{innermost_greatest, innermost_least};
+pub use innermost::innermost_level;
 pub use shared::{Found, count_least};

@@ -1,30 +1,26 @@
 // What the routes share: a set with its queries, and how many levels are least.
 ghost use Rattle.std.specs.Prelude.{◌≡◌};
-ghost use Rattle.model.specs.Held.{Held, system_in};
+ghost use Rattle.model.specs.Files.{held_system};
 ghost use Rattle.routes.specs.Routes.{least_levels};
 
-use model::{Model, is_greatest};
+use model::HeldFile;
 
 // A set, and the queries made on the way to it.
-#[derive(Clone, Copy)]
+#[derive(Clone, Copy, Debug, PartialEq, Eq)]
 pub struct Found {
     pub set: u64,
     pub count: u64,
 }
 
 // The number of least levels.
-pub fn count_least(file: &[u8], m: Model) -> usize
-    requires { Held file.now m }
-    ensures { result ≡ least_levels (system_in file.now m) }
+pub fn count_least(file: HeldFile) -> usize
+    ensures { result ≡ least_levels (held_system file.entry) }
 {
-    let d = m.levels;
     let mut least = 0;
-    let mut k = 0;
-    while k < d {
-        if !is_greatest(file, m, k) {
+    for k in 0..file.model.levels {
+        if !file.is_greatest(k) {
             least += 1;
         }
-        k += 1;
     }
     least
 }

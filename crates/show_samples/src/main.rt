@@ -3,10 +3,10 @@
 #![tactic(auto)]
 
 use answers::Refusal;
-use model::{Model, Reading};
-use solver::Judged;
+use model::Model;
+use routes::Found;
+use solver::Unjudged;
 use std::io;
-use writer::Written;
 
 // Model P's file.
 const P: [u8; 52] = [
@@ -23,42 +23,47 @@ fn show_pair(out: &impl Print, name: &str, first: u64, second: u64) -> io::Resul
 }
 
 fn show_refusal(out: &impl Print, name: &str, e: Refusal) -> io::Result<()> {
-    let number = answers::number(e);
+    let number = u64::from(e);
     println!(out; "{name}refused {number}")
 }
 
 // A set and its count, or a refusal, with its count if it has one.
-fn show_judged(out: &impl Print, name: &str, j: Judged) -> io::Result<()> {
-    match j {
-        Judged::Found { set, count } => show_pair(out, name, set, count),
-        Judged::OverCeiling(forecast) => {
-            let number = answers::number(Refusal::Ceiling);
+fn show_judged(out: &impl Print, name: &str, judged: Result<Found, Unjudged>) -> io::Result<()> {
+    match judged {
+        Ok(found) => show_pair(out, name, found.set, found.count),
+        Err(Unjudged::OverCeiling(forecast)) => {
+            let number = u64::from(Refusal::Ceiling);
             println!(out; "{name}refused {number} {forecast}")
         }
-        Judged::Refused(e) => show_refusal(out, name, e),
+        Err(Unjudged::Refused(e)) => show_refusal(out, name, e),
     }
 }
 
 // The lines and the levels, or a refusal.
-fn show_reading(out: &impl Print, name: &str, r: Reading) -> io::Result<()> {
-    match r {
-        Reading::Accepted(m) => show_pair(out, name, m.lines as u64, m.levels as u64),
-        Reading::Refused(e) => show_refusal(out, name, e),
+fn show_counts(out: &impl Print, name: &str, counts: Result<Model, Refusal>) -> io::Result<()> {
+    match counts {
+        Ok(m) => show_pair(out, name, m.lines as u64, m.levels as u64),
+        Err(e) => show_refusal(out, name, e),
     }
 }
 
+// The counts that checking a file gives.
+fn show_checked(out: &impl Print, name: &str, file: &[u8]) -> io::Result<()> {
+    show_counts(out, name, checker::check(file).map(|held| held.model))
+}
+
 // A length, or a refusal.
-fn show_written(out: &impl Print, name: &str, w: Written) -> io::Result<()> {
-    match w {
-        Written::Length(bytes) => show_number(out, name, bytes as u64),
-        Written::Refused(e) => show_refusal(out, name, e),
+fn show_written(out: &impl Print, name: &str, length: Result<usize, Refusal>) -> io::Result<()> {
+    match length {
+        Ok(bytes) => show_number(out, name, bytes as u64),
+        Err(e) => show_refusal(out, name, e),
     }
 }
 
 // A file of 64 lines and 8 levels, then with 65 lines in it, then with 9 levels too.
 fn show_sizes(out: &impl Print) -> io::Result<()> {
     let mut file = [0u8; Model::MAX_FILE];
-    writer::write(
+    let _ = writer::write(
         64,
         8,
         &[0u8; 8],
@@ -67,15 +72,11 @@ fn show_sizes(out: &impl Print) -> io::Result<()> {
         &[1u64; 512],
         &mut file,
     );
-    show_reading(out, "64 lines, 8 levels: ", checker::check(&file))?;
+    show_checked(out, "64 lines, 8 levels: ", &file)?;
     file[0] = 65;
-    show_reading(out, "65 lines: ", checker::check(&file))?;
+    show_checked(out, "65 lines: ", &file)?;
     file[2] = 9;
-    show_reading(out, "65 lines, 9 levels: ", checker::check(&file))
-}
-
-fn wide(x: u8) -> u64 {
-    x as u64
+    show_checked(out, "65 lines, 9 levels: ", &file)
 }
 
 // P read and written: its new file is two bytes longer, and stands for the same model.
@@ -85,12 +86,12 @@ fn show_new_layout(out: &impl Print) -> io::Result<()> {
     let mut thresholds = [9u8; 2];
     let mut words = [9u64; 4];
     let read = reader::read(&P, &mut signs, &mut kinds, &mut thresholds, &mut words);
-    show_reading(out, "P: ", read)?;
+    show_counts(out, "P: ", read)?;
     show_pair(
         out,
         "P, thresholds: ",
-        wide(thresholds[0]),
-        wide(thresholds[1]),
+        u64::from(thresholds[0]),
+        u64::from(thresholds[1]),
     )?;
     let mut file = [0u8; 54];
     show_written(
@@ -118,15 +119,15 @@ fn show_votes(out: &impl Print, name: &str, t: u8) -> io::Result<()> {
         &mut file,
     );
     match written {
-        Written::Length(_) => show_judged(out, name, solver::solve_built(&file, 0, 15, 16)),
-        Written::Refused(e) => show_refusal(out, name, e),
+        Ok(_) => show_judged(out, name, solver::solve_built(&file, 0, 15, 16)),
+        Err(e) => show_refusal(out, name, e),
     }
 }
 
 // The bench page of P, three rows.
 fn show_page(out: &impl Print) -> io::Result<()> {
     let mut page = [0u8; 123];
-    bench_page::make_page(&P, &mut page);
+    let _ = bench_page::make_page(&P, &mut page);
     out.write_all(&page)
 }
 
@@ -155,8 +156,8 @@ fn show_all(out: &impl Print) -> io::Result<()> {
         solver::solve_built(&P, 0, 3, 3),
     )?;
     show_sizes(out)?;
-    show_reading(out, "51 bytes of P: ", checker::check(&P[..51]))?;
-    show_reading(out, "15 bytes of P: ", checker::check(&P[..15]))?;
+    show_checked(out, "51 bytes of P: ", &P[..51])?;
+    show_checked(out, "15 bytes of P: ", &P[..15])?;
     let gaps = [1u8; 1024];
     show_judged(
         out,

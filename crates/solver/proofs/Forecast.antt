@@ -1,6 +1,7 @@
 -- The forecast is the count that judging by built-in trees comes to. So it is refused with 10 exactly where that count is over the ceiling and no earlier
 -- number applies, an accepted count is within the ceiling, a ceiling of 0 refuses every judgement, and one of 64 ^ 8 none.
 -- Assumes nothing.
+use Rattle.std.specs.Prelude.{Result}
 use mathlib.Core.Bool.{cond}
 use mathlib.Core.List.{List}
 use mathlib.Core.Path.{◌≡◌, refl, sym, ◌∙◌, ap}
@@ -15,6 +16,7 @@ use Rattle.system.specs.System.{System}
 use Rattle.model.specs.File.{decode}
 use Rattle.model.proofs.Refusals.{none_over}
 use Rattle.checker.proofs.Accepted.{accepted}
+use Rattle.routes.specs.declared.shared.Found.{Found}
 use Rattle.routes.specs.Routes.{least_levels, greatest_levels, built_least, built_greatest, restricted_count}
 use Rattle.routes.proofs.Promises.{built_product}
 use Rattle.admission.specs.Checks.{bound_checks, bound_number, forecast}
@@ -22,7 +24,7 @@ use Rattle.admission.proofs.Admitted.{file_passed, after_bounds}
 use Rattle.admission.proofs.FewQueries.{forecast_few}
 use Rattle.solver.specs.Checks.{forecast_checks, built_checks, built_number}
 use Rattle.solver.specs.Says.{judged_answer, BuiltSays}
-use Rattle.solver.specs.declared.Judged.{Judged}
+use Rattle.solver.specs.declared.Unjudged.{Unjudged}
 
 -- the count of judging a system by built-in trees
 abbrev pub built_count : System → ℕ
@@ -71,7 +73,7 @@ both_passed file a b ceiling none =
     (passes_none (bound_checks file a b) both.0, ltb-false ceiling (forecast (decode file)) both.1.0)
 
 -- so an accepted count is within it
-pub count_within : (file : List ℕ) (a b ceiling : ℕ) (r : Judged) → BuiltSays file a b ceiling r → (judged_answer r).number ≡ 0 → (judged_answer r).count ≤ ceiling
+pub count_within : (file : List ℕ) (a b ceiling : ℕ) (r : Result Found Unjudged) → BuiltSays file a b ceiling r → (judged_answer r).number ≡ 0 → (judged_answer r).count ≤ ceiling
 count_within file a b ceiling r says ok =
     let none : built_number file a b ceiling ≡ 0 = none_over _ _ _ _ says.answer refl ok in
     rw (says.product none) (both_passed file a b ceiling none).1

@@ -11,8 +11,6 @@ ghost use Rattle.one_sided_solver.specs.Says.{one_sided_answer, OneSidedLeaves};
 ghost use Rattle.bench_page.specs.Says.{page_answer, PageLeaves};
 ghost use Rattle.answer_c.specs.Words.{six_words};
 
-use answer_c::{put_judged, put_paged, put_queried, put_reading, put_written};
-
 #[unsafe(no_mangle)]
 pub extern "C" fn solver_read(
     file: &[u8],
@@ -26,7 +24,7 @@ pub extern "C" fn solver_read(
     ensures read_leaves { ReadLeaves file.now signs.old kinds.old thresholds.old words.old
         signs.new kinds.new thresholds.new words.new }
 {
-    put_reading(answer, reader::read(file, signs, kinds, thresholds, words));
+    *answer = answer_c::reading(reader::read(file, signs, kinds, thresholds, words));
 }
 
 #[unsafe(no_mangle)]
@@ -43,31 +41,28 @@ pub extern "C" fn solver_write(
     ensures answer_after { answer.new ≡ six_words (write_answer (system_of n d signs.now kinds.now thresholds.now words.now) (length buffer.old)) }
     ensures write_leaves { WriteLeaves (system_of n d signs.now kinds.now thresholds.now words.now) buffer.old buffer.new }
 {
-    put_written(
-        answer,
-        writer::write(n, d, signs, kinds, thresholds, words, buffer),
-    );
+    *answer = answer_c::written(writer::write(n, d, signs, kinds, thresholds, words, buffer));
 }
 
 #[unsafe(no_mangle)]
 pub extern "C" fn solver_query(file: &[u8], arguments: &[u64], answer: &mut [u64; 6])
     ensures { answer.new ≡ six_words (query_answer file.now arguments.now) }
 {
-    put_queried(answer, solver::query(file, arguments));
+    *answer = answer_c::queried(solver::query(file, arguments));
 }
 
 #[unsafe(no_mangle)]
 pub extern "C" fn solver_plain(file: &[u8], a: u64, b: u64, ceiling: u64, answer: &mut [u64; 6])
     ensures { answer.new ≡ six_words (plain_answer file.now a b ceiling) }
 {
-    put_judged(answer, solver::solve_plain(file, a, b, ceiling));
+    *answer = answer_c::judged(solver::solve_plain(file, a, b, ceiling));
 }
 
 #[unsafe(no_mangle)]
 pub extern "C" fn solver_built(file: &[u8], a: u64, b: u64, ceiling: u64, answer: &mut [u64; 6])
     ensures { answer.new ≡ six_words (built_answer file.now a b ceiling) }
 {
-    put_judged(answer, solver::solve_built(file, a, b, ceiling));
+    *answer = answer_c::judged(solver::solve_built(file, a, b, ceiling));
 }
 
 #[unsafe(no_mangle)]
@@ -81,7 +76,7 @@ pub extern "C" fn solver_lent(
 )
     ensures { answer.new ≡ six_words (lent_answer file.now a b u.now v.now) }
 {
-    put_judged(answer, solver::solve_lent(file, a, b, u, v));
+    *answer = answer_c::judged(solver::solve_lent(file, a, b, u, v));
 }
 
 #[unsafe(no_mangle)]
@@ -89,7 +84,7 @@ pub extern "C" fn solver_one_sided(file: &[u8], v: &[u8], words: &mut [u64], ans
     ensures answer_after { answer.new ≡ six_words (one_sided_answer file.now v.now (length words.old)) }
     ensures one_sided_leaves { OneSidedLeaves file.now v.now words.old words.new }
 {
-    put_judged(answer, one_sided_solver::solve_one_sided(file, v, words));
+    *answer = answer_c::judged(one_sided_solver::solve_one_sided(file, v, words));
 }
 
 #[unsafe(no_mangle)]
@@ -97,7 +92,7 @@ pub extern "C" fn solver_page(file: &[u8], buffer: &mut [u8], answer: &mut [u64;
     ensures answer_after { answer.new ≡ six_words (page_answer file.now (length buffer.old)) }
     ensures page_leaves { PageLeaves file.now buffer.old buffer.new }
 {
-    put_paged(answer, bench_page::make_page(file, buffer));
+    *answer = answer_c::paged(bench_page::make_page(file, buffer));
 }
 
 #[unsafe(no_mangle)]
@@ -105,5 +100,5 @@ pub extern "C" fn solver_join(first: &[u8], second: &[u8], buffer: &mut [u8], an
     ensures answer_after { answer.new ≡ six_words (join_answer first.now second.now (length buffer.old)) }
     ensures join_leaves { JoinLeaves first.now second.now buffer.old buffer.new }
 {
-    put_written(answer, joiner::join(first, second, buffer));
+    *answer = answer_c::written(joiner::join(first, second, buffer));
 }

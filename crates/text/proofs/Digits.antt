@@ -2,7 +2,7 @@
 -- are one text.
 -- Assumes nothing.
 use mathlib.Core.Bool.{Bool, true, false, cond}
-use mathlib.Core.List.{List, [], ◌∷◌, ◌++◌, append-nil, append_assoc}
+use mathlib.Core.List.{List, [], ◌∷◌, ◌++◌, append_assoc}
 use mathlib.Core.Path.{◌≡◌, refl, sym, ◌∙◌, ap, ap₂}
 use Prim.Native.Nat.{ℕ, zero, suc, ◌+◌, ◌/◌, ◌%◌, ◌^◌, ◌≤◌, ◌<◌}
 use native.Mathlib.Nat.{add-zero, pow-suc, div-lt_iff_lt-mul}
@@ -10,7 +10,7 @@ use native.Mathlib.Omega.{arith}
 use lib.Dec.{ltb, lit<}
 use borrow.Author.Tests.{lt-ltb}
 use lib.ListN.{length, set, take, drop, length-append, length-set, take-append-drop}
-use lib.Seq.{take-length, drop-drop, paste, length-paste, take-paste, drop-paste}
+use lib.Seq.{take-length, drop-drop, paste, take-paste, drop-paste}
 use Rattle.lists.proofs.Front.{back_store}
 use Rattle.text.specs.Text.{digit, digits, places, decimal, hex, number_line, refused_word, behind_number, refused_line, text_or_refused, pasted, Puts}
 
@@ -34,30 +34,20 @@ module _ (at : ℕ) (s l : List ℕ) where
       ∙ ap (drop (length t)) (drop-paste l at s (length s) h (omega arith)) ∙ drop-drop (length t) (at + length s) l ∙ ap (λ (n : ℕ). drop n l) end)
       ∙ simp append_assoc
 
-  pub pasted_length : at + length s ≤ length l → length (pasted at s l) ≡ length l
-  pasted_length h = ap length pasted_copy ∙ length-paste l at s (length s) h (omega arith)
-
 -- Putting k digits from the last to the first: those to come, of what is left of the number, and those put already are all of them.
 pub record Filling (out₀ : List ℕ) (at base k x : ℕ) (out : List ℕ) (rest i : ℕ) : Type 0 where
-  pub to_come : i ≤ k
   pub put : List ℕ
   pub whole : digits base k x ≡ digits base i rest ++ put
   pub held : out ≡ take (at + i) out₀ ++ (put ++ drop (at + k) out₀)
   pub long : length out ≡ length out₀
 
 module _ (out₀ : List ℕ) (at base k x : ℕ) where
-  pub filling_start : Filling out₀ at base k x out₀ x k
-  filling_start =
-      record { to_come = omega arith; put = []; whole = sym (append-nil (digits base k x)); held = sym (take-append-drop (at + k) out₀); long = refl }
-
-  pub filling_step : {out : List ℕ} {rest : ℕ} (i j : ℕ) → i ≡ suc j → at + k ≤ length out₀ → Filling out₀ at base k x out rest i → (v : ℕ) → v ≡ digit (rest % base)
+  pub filling_step : {out : List ℕ} {rest : ℕ} (i j : ℕ) → i ≡ suc j → i ≤ k → at + k ≤ length out₀ → Filling out₀ at base k x out rest i → (v : ℕ) → v ≡ digit (rest % base)
       → Filling out₀ at base k x (set out (at + j) v) (rest / base) j
   unfolding digits
-  filling_step {out} {rest} i j e fits f v q =
-      let few : i ≤ k = f.to_come in
+  filling_step {out} {rest} i j e few fits f v q =
       let next : at + i ≡ suc (at + j) = omega arith in
       record {
-        to_come = omega arith;
         put = v ∷ f.put;
         whole = f.whole ∙ ap (λ (n : ℕ). digits base n rest ++ f.put) e ∙ append_assoc (digits base j (rest / base)) (digit (rest % base) ∷ []) f.put
             ∙ ap (λ (d : ℕ). digits base j (rest / base) ++ d ∷ f.put) (sym q);
@@ -125,11 +115,3 @@ puts_then {at} {r} {r'} {s} {t} {out} {mid} h p q =
       end = q.end ∙ omega (arith, p.end, length-append s t);
       left = q.left ∙ ap₂ (λ (n : ℕ) (l : List ℕ). pasted n t l) p.end p.left ∙ pasted_twice at s out h t;
     }
-
--- a buffer keeps its length
-pub puts_length : {at r : ℕ} {s out out' : List ℕ} → at + length s ≤ length out → Puts at s out out' r → length out' ≡ length out
-puts_length {at} {r} {s} {out} h p = ap length p.left ∙ pasted_length at s out h
-
--- a text at the start of a buffer lies within it
-pub puts_fits : {r : ℕ} {s out out' : List ℕ} → Puts 0 s out out' r → r ≤ length out'
-puts_fits {s = s} {out = out} p = omega (arith, p.end, ap length p.left, length-append s (drop (0 + length s) out))

@@ -19,7 +19,11 @@ fn digit_of(n: u64) -> u8
     requires { n < 16 }
     ensures { result ≡ digit n }
 {
-    if n < 10 { 48 + n as u8 } else { 87 + n as u8 }
+    if n < 10 {
+        b'0' + n as u8
+    } else {
+        b'a' + (n as u8 - 10)
+    }
 }
 
 // The last k digits of x, put from the last to the first.
@@ -29,11 +33,9 @@ pub fn put_digits(out: &mut [u8], at: usize, base: u64, k: usize, x: u64) -> usi
     ensures { Puts at (digits base k x) out.old out.new result }
 {
     let mut rest = x;
-    let mut i = k;
-    while 0 < i {
-        i -= 1;
+    for i in (0..k).rev() {
         out[at + i] = digit_of(rest % base);
-        rest = rest / base;
+        rest /= base;
     }
     at + k
 }
@@ -53,7 +55,7 @@ pub fn decimal_places(x: u64) -> usize
     let mut rest = x;
     let mut n = 1;
     while 9 < rest {
-        rest = rest / 10;
+        rest /= 10;
         n += 1;
     }
     n
@@ -85,7 +87,8 @@ pub fn put_refused(out: &mut [u8], at: usize, number: u64, count: u64) -> usize
     let word = put(out, at, b"refused ");
     let behind = put_decimal(out, word, number);
     if count == 0 {
-        return put(out, behind, b"\n");
+        put(out, behind, b"\n")
+    } else {
+        put_number_line(out, behind, b" ", count)
     }
-    put_number_line(out, behind, b" ", count)
 }

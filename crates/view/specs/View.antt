@@ -1,15 +1,21 @@
--- A model in use: a lent file with the two counts that checking gives beside it, and what the three judgings of it give.
+-- A model in use: what the three judgings of it give.
 -- Assumes nothing.
-use Rattle.std.specs.Prelude.{List, ◌≡◌, ℕ}
+use Rattle.std.specs.Prelude.{Option, List, ◌≡◌, ℕ}
 use Rattle.system.specs.System.{System}
+use Rattle.model.specs.File.{lines_in, levels_in}
+use Rattle.model.specs.declared.held.HeldFile.{HeldFile}
 use Rattle.routes.specs.Parts.{Lent, Gives}
 use Rattle.plain_route.specs.Under.{under}
 use Rattle.routes.specs.Routes.{least_levels, greatest_levels, built_least, built_greatest, plain_run, restricted_set, restricted_count}
 use Rattle.routes.specs.declared.shared.Found.{Found}
-use Rattle.plain_route.specs.declared.Outcome.{Outcome}
+use Rattle.plain_route.specs.declared.Settled.{Settled}
+
+-- the counts of a file at hand are the file's own
+abbrev pub ItsCounts : HeldFile → Type 0
+ItsCounts file = (file.model.lines ≡ lines_in file.bytes.now) × (file.model.levels ≡ levels_in file.bytes.now)
 
 -- the outcome of the plain route under a ceiling
-abbrev pub PlainIs : System → ℕ → ℕ → ℕ → Outcome → Type 0
+abbrev pub PlainIs : System → ℕ → ℕ → ℕ → Option Settled → Type 0
 PlainIs s a b ceiling r = r ≡ under ceiling (plain_run s a b)
 
 -- the restricted set over two trees, with its queries

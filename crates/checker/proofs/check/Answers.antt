@@ -1,25 +1,24 @@
 -- `checker::check` meets its contract: the header's refusal is handed on; then the sections are searched in the checks' order.
 -- Assumes nothing.
-use mathlib.Core.Bool.{Bool, cond}
+use mathlib.Core.Bool.{Bool, false, cond}
 use mathlib.Core.List.{List}
 use mathlib.Core.Path.{◌≡◌, refl, sym, ◌∙◌, ap, ap₂}
 use Prim.Native.Nat.{ℕ, ◌-◌}
 use native.Mathlib.Omega.{arith}
 use lib.Dec.{ltb}
 use lib.ListN.{take, drop}
+use Rattle.std.proofs.lemmas.Result.{err_from_is_err_and}
 use Rattle.answers.specs.Check.{first_of, unless}
-use Rattle.answers.proofs.Checks.{first_after, first_before, none_first}
+use Rattle.answers.proofs.Checks.{first_after, none_first}
 use Rattle.system.specs.System.{System}
 use Rattle.model.specs.File.{signs_at, kinds_at, lines_in, levels_in, is_old, highest_kind}
 use Rattle.model.specs.Checks.{some, content_checks}
 use Rattle.model.specs.Held.{system_in}
 use Rattle.checker.specs.Checks.{header_checks, section_checks, file_number}
-use Rattle.model.specs.Says.{reading_answer, sized}
+use Rattle.model.specs.Says.{sized}
 use Rattle.model.specs.declared.layout.Model.{Model}
-use Rattle.model.specs.declared.layout.Reading.{Reading}
-use Rattle.model.specs.declared.layout.Reading.TheVariants as reading
-use Rattle.model.proofs.Refusals.{AcceptedAs, accepted_as, refused_as}
-use Rattle.checker.proofs.Accepted.{decoded}
+use Rattle.model.proofs.Refusals.{AcceptedAs, accepted_as, refused_as, refused_before, refused_answer}
+use Rattle.checker.proofs.Accepted.{accepted, decoded, held}
 use Rattle.checker.proofs.check.Goals as goal
 use Rattle.checker.proofs.check.Goals.{After-stray_selection}
 
@@ -31,9 +30,9 @@ signs-test file m {end} e searched =
     sym (searched ∙ ap (λ (k : ℕ). some (ltb 1) (take k (drop signs_at file))) span)
 
 -- a header that passes: the counts that it gives, and that only the content is left to check
-module _ (file : List ℕ) {a : Reading} (h : reading_answer a ≡ unless (first_of (header_checks file)) (sized (lines_in file) (levels_in file))) {m : Model} (e : a ≡ reading.Accepted m) where
+module _ (file : List ℕ) {m : Model} (h : sized m.lines m.levels ≡ unless (first_of (header_checks file)) (sized (lines_in file) (levels_in file))) where
   counts : AcceptedAs (first_of (header_checks file)) (lines_in file) (levels_in file) m
-  counts = accepted_as _ (lines_in file) (levels_in file) h e
+  counts = accepted_as _ (lines_in file) (levels_in file) h
 
   content : file_number file ≡ first_of (content_checks (highest_kind (is_old m.lines m.levels file)) (system_in file m))
   unfolding file_number
@@ -42,31 +41,27 @@ module _ (file : List ℕ) {a : Reading} (h : reading_answer a ≡ unless (first
       ∙ ap₂ (λ (highest : ℕ) (s : System). first_of (content_checks highest s))
       (sym (ap₂ (λ (n d : ℕ). highest_kind (is_old n d file)) counts.lines counts.levels)) (sym (decoded file counts))
 
-pub returns-in_default : goal.returns-in_default
+pub returns-in_err-model-clause-answer : goal.returns-in_err-model-clause-answer
 unfolding file_number
-returns-in_default c =
+returns-in_err-model-clause-answer c =
     let file = c.args.file.now in
-    let checks = header_checks file in
-    let answer = c.check_header-counts.ensures in
-    let refused = refused_as (first_of checks) (lines_in file) (levels_in file) answer c.in_default.is in
-    let first = first_before checks (section_checks file) refused.positive in
-    answer ∙ ap (λ (e : ℕ). unless e (sized (lines_in file) (levels_in file))) (sym first)
+    let refused = refused_as (first_of (header_checks file)) (lines_in file) (levels_in file) c.in_err-model.ensures in
+    let same = err_from_is_err_and c.from_residual.result c.from_residual.ensures.1 in
+    rw (same.1, same.2) (refused_answer (refused_before (header_checks file) (section_checks file) refused) (sized (lines_in file) (levels_in file)))
 
-pub returns-then-one_over : goal.returns-then-one_over
-returns-then-one_over c =
+pub returns-then-one_over-clause-answer : goal.returns-then-one_over-clause-answer
+returns-then-one_over-clause-answer c =
     let file = c.args.file.now in
-    rw (
-      content file c.check_header-counts.ensures c.in-Accepted.is,
-      signs-test file c.in-Accepted.m c.kinds_at-end.ensures c.one_over.ensures,
-      c.if-one_over.true,
-    )
+    let m = c.in_ok-model.model in
+    rw (content file c.in_ok-model.ensures, signs-test file m c.kinds_at.ensures c.one_over.ensures, c.if-one_over.true)
 
-pub returns-then-faults : goal.returns-then-faults
-returns-then-faults c =
+pub returns-then-faults-clause-answer : goal.returns-then-faults-clause-answer
+returns-then-faults-clause-answer c =
     let file = c.args.file.now in
+    let m = c.in_ok-model.model in
     rw (
-      content file c.check_header-counts.ensures c.in-Accepted.is,
-      signs-test file c.in-Accepted.m c.kinds_at-end.ensures c.one_over.ensures,
+      content file c.in_ok-model.ensures,
+      signs-test file m c.kinds_at.ensures c.one_over.ensures,
       c.if-one_over.false,
       ← c.line_faults-faults.ensures.kinds,
       c.if-faults.true,
@@ -76,9 +71,10 @@ returns-then-faults c =
 searched : (c : After-stray_selection) → file_number c.args.file.now ≡ cond c.stray_selection.result 7 (cond c.line_faults-faults.result.threshold 14 0)
 searched c =
     let file = c.args.file.now in
+    let m = c.in_ok-model.model in
     rw (
-      content file c.check_header-counts.ensures c.in-Accepted.is,
-      signs-test file c.in-Accepted.m c.kinds_at-end.ensures c.one_over.ensures,
+      content file c.in_ok-model.ensures,
+      signs-test file m c.kinds_at.ensures c.one_over.ensures,
       c.if-one_over.false,
       ← c.line_faults-faults.ensures.kinds,
       c.if-faults.false,
@@ -86,13 +82,24 @@ searched c =
       ← c.line_faults-faults.ensures.thresholds c.if-faults.false,
     )
 
-pub returns-then-stray_selection : goal.returns-then-stray_selection
-returns-then-stray_selection c = rw (searched (goal.at.returns-then-stray_selection c).After-stray_selection, c.if-stray_selection.true)
+pub returns-then-stray_selection-clause-answer : goal.returns-then-stray_selection-clause-answer
+returns-then-stray_selection-clause-answer c = rw (searched (goal.at.returns-then-stray_selection-clause-answer c).After-stray_selection, c.if-stray_selection.true)
 
-pub returns-then-faults-2 : goal.returns-then-faults-2
-returns-then-faults-2 c = rw (searched (goal.at.returns-then-faults-2 c).After-stray_selection, c.if-stray_selection.false, c.if-faults-2.true)
+pub returns-then-faults-2-clause-answer : goal.returns-then-faults-2-clause-answer
+returns-then-faults-2-clause-answer c =
+    rw (searched (goal.at.returns-then-faults-2-clause-answer c).After-stray_selection, c.if-stray_selection.false, c.if-faults-2.true)
 
-pub returns : goal.returns
-returns c =
-    let known = counts c.args.file.now c.check_header-counts.ensures c.in-Accepted.is in
-    rw (searched (goal.at.returns c).After-stray_selection, c.if-stray_selection.false, c.if-faults-2.false) (ap₂ sized known.lines known.levels)
+-- no number applies, so the file is held
+passed : (c : After-stray_selection) → c.stray_selection.result ≡ false → c.line_faults-faults.result.threshold ≡ false → file_number c.args.file.now ≡ 0
+passed c strays faults = rw (searched c, strays, faults)
+
+pub invariant_of-result : goal.invariant_of-result
+invariant_of-result c =
+    let file = c.args.file.now in
+    let none = passed (goal.at.invariant_of-result c).After-stray_selection c.if-stray_selection.false c.if-faults-2.false in
+    record { held = held (accepted file none) (counts file c.in_ok-model.ensures) }
+
+pub returns-clause-answer : goal.returns-clause-answer
+returns-clause-answer c =
+    let known = counts c.args.file.now c.in_ok-model.ensures in
+    rw (passed (goal.at.returns-clause-answer c).After-stray_selection c.if-stray_selection.false c.if-faults-2.false) (ap₂ sized known.lines known.levels)

@@ -51,65 +51,61 @@ module _ (p : ℕ → Bool) (i : ℕ) {found next : Bool} (h : found ≡ some_be
   found_here : found ≡ false → next ≡ p i → next ≡ some_below (i + 1) p
   found_here e f = f ∙ sym (rw (add-one i, ← h, e) (or-false (p i)))
 
-pub slice_bounds-one_over-end : goal.slice_bounds-one_over-end
-slice_bounds-one_over-end c =
-    omega (arith, old_words c.requires (sym c.is_old.ensures ∙ c.if-is_old.true), c.requires.whole, c.old_words_at-last.ensures)
-
 -- the kinds are what is searched
 kinds-test : (c : After-one_over) →
     let z = c.args in
-    (is_old z.m.lines z.m.levels z.file.now ≡ true) × (c.one_over.result ≡ some (ltb 1) (system_in z.file.now z.m).kinds)
+    (is_old z.file.model.lines z.file.model.levels z.file.bytes.now ≡ true) × (c.one_over.result ≡ some (ltb 1) (system_in z.file.bytes.now z.file.model).kinds)
 kinds-test c =
     let z = c.args in
-    let file = z.file.now in
+    let file = z.file.bytes.now in
     let old = sym c.is_old.ensures ∙ c.if-is_old.true in
-    let within : kinds_at z.m.levels + z.m.lines ≤ length file = omega (arith, old_words c.requires old, c.requires.whole) in
-    let span : c.old_words_at-last.result - c.kinds_at-first.result ≡ z.m.lines = omega (arith, c.old_words_at-last.ensures, c.kinds_at-first.ensures) in (
+    let within : kinds_at z.file.model.levels + z.file.model.lines ≤ length file = omega (arith, old_words c.args.file.laid_out old, c.args.file.laid_out.whole) in
+    let span : c.old_words_at-last.result - c.kinds_at-first.result ≡ z.file.model.lines = omega (arith, c.old_words_at-last.ensures, c.kinds_at-first.ensures) in (
       old,
       c.one_over.ensures
           ∙ ap₂ (λ (k at : ℕ). some (ltb 1) (take k (drop at file))) span c.kinds_at-first.ensures
-          ∙ ap (some (ltb 1)) (old_kinds z.m.lines z.m.levels file old within),
+          ∙ ap (some (ltb 1)) (old_kinds z.file.model.lines z.file.model.levels file old within),
     )
 
 pub returns-then-is_old : goal.returns-then-is_old
 returns-then-is_old c =
     let z = c.args in
-    let file = z.file.now in
+    let file = z.file.bytes.now in
     let test = kinds-test (goal.at.returns-then-is_old c).After-one_over in
     record {
-      kinds = test.1 ∙ ap (λ (b : Bool). some (ltb (highest_kind b)) (system_in file z.m).kinds) (sym test.0);
-      thresholds = λ none. sym (old_fits z.m.lines z.m.levels file test.0 (sym test.1 ∙ none));
+      kinds = test.1 ∙ ap (λ (b : Bool). some (ltb (highest_kind b)) (system_in file z.file.model).kinds) (sym test.0);
+      thresholds = λ none. sym (old_fits z.file.model.lines z.file.model.levels file test.0 (sym test.1 ∙ none));
     }
 
 -- both answers after a turn
 over_again : (c : Joined-over) →
-    c.if-over.over ≡ some_below (c.loop-i.i + 1) (kind_over (system_in c.args.file.now c.args.m))
+    c.if-over.over ≡ some_below (c.loop-i.i + 1) (kind_over (system_in c.args.file.bytes.now c.args.file.model))
 over_again c =
-    let p = kind_over (system_in c.args.file.now c.args.m) in
+    let p = kind_over (system_in c.args.file.bytes.now c.args.file.model) in
     elim c.if-over.branch [
-      | then-over w ↦ found_before p c.loop-i.i c.loop-i.invariant.1.0 w.if-over.true w.over-is
-      | else-over w ↦ found_here p c.loop-i.i c.loop-i.invariant.1.0 w.if-over.false (w.over-is ∙ ap (ltb 2) w.kind.ensures)
+      | then-over w ↦ found_before p c.loop-i.i c.loop-i.invariant.0 w.if-over.true w.over-is
+      | else-over w ↦ found_here p c.loop-i.i c.loop-i.invariant.0 w.if-over.false (w.over-is ∙ ap (ltb 2) w.kind.ensures)
     ]
 
 misfit_again : (c : Joined-misfit) →
-    c.if-misfit.misfit ≡ some_below (c.loop-i.i + 1) (threshold_misfits (system_in c.args.file.now c.args.m))
+    c.if-misfit.misfit ≡ some_below (c.loop-i.i + 1) (threshold_misfits (system_in c.args.file.bytes.now c.args.file.model))
 misfit_again c =
-    let p = threshold_misfits (system_in c.args.file.now c.args.m) in
+    let p = threshold_misfits (system_in c.args.file.bytes.now c.args.file.model) in
     elim c.if-misfit.branch [
-      | then-misfit w ↦ found_before p c.loop-i.i c.loop-i.invariant.1.1 w.if-misfit.true w.misfit-is
-      | else-misfit w ↦ found_here p c.loop-i.i c.loop-i.invariant.1.1 w.if-misfit.false (w.misfit-is ∙ w.line_misfits-misfit.ensures)
+      | then-misfit w ↦ found_before p c.loop-i.i c.loop-i.invariant.1 w.if-misfit.true w.misfit-is
+      | else-misfit w ↦ found_here p c.loop-i.i c.loop-i.invariant.1 w.if-misfit.false (w.misfit-is ∙ w.line_misfits-misfit.ensures)
     ]
 
 pub loop-i-preserved : goal.loop-i-preserved
-loop-i-preserved c = (omega arith, (over_again (goal.at.loop-i-preserved c).Joined-over, misfit_again (goal.at.loop-i-preserved c).Joined-misfit))
+loop-i-preserved c = (over_again (goal.at.loop-i-preserved c).Joined-over, misfit_again (goal.at.loop-i-preserved c).Joined-misfit)
 
 pub returns : goal.returns
 returns c =
-    let s = system_in c.args.file.now c.args.m in
+    let s = system_in c.args.file.bytes.now c.args.file.model in
     let loop = c.loop-i in
-    let all : loop.i ≡ c.args.m.lines = omega arith in
+    let all : loop.i ≡ c.args.file.model.lines = omega arith in
     let new = sym c.is_old.ensures ∙ c.if-is_old.false in
     let over = ap (λ (k : ℕ). some_below k (kind_over s)) (all ∙ sym (every_length _ _ _)) ∙ sym (some_index _ s.kinds) in record {
-      kinds = loop.invariant.1.0 ∙ over ∙ ap (λ (b : Bool). some (ltb (highest_kind b)) s.kinds) (sym new);
-      thresholds = λ none. loop.invariant.1.1 ∙ ap (λ (k : ℕ). some_below k (threshold_misfits s)) all;
+      kinds = loop.invariant.0 ∙ over ∙ ap (λ (b : Bool). some (ltb (highest_kind b)) s.kinds) (sym new);
+      thresholds = λ none. loop.invariant.1 ∙ ap (λ (k : ℕ). some_below k (threshold_misfits s)) all;
     }

@@ -3,7 +3,7 @@
 -- Assumes nothing.
 use mathlib.Core.Bool.{Bool}
 use mathlib.Core.Path.{◌≡◌}
-use Prim.Native.Nat.{ℕ, ◌≤◌, ◌-◌}
+use Prim.Native.Nat.{ℕ}
 use lib.Dec.{ltb}
 use lib.ListN.{get_or}
 use Rattle.system.specs.System.{System}
@@ -16,8 +16,5 @@ kind_over s i = ltb 2 (get_or s.kinds i 0)
 
 abbrev pub invariant-loop-i : goal.invariant-loop-i
 invariant-loop-i l =
-    let s = system_in l.file l.m in
-    (l.i ≤ l.n) × ((l.over ≡ some_below l.i (kind_over s)) × (l.misfit ≡ some_below l.i (threshold_misfits s)))
-
-abbrev pub decreases-loop-i : goal.decreases-loop-i
-decreases-loop-i l = l.n - l.i
+    let s = system_in l.file.bytes.now l.file.model in
+    (l.over ≡ some_below l.i (kind_over s)) × (l.misfit ≡ some_below l.i (threshold_misfits s))

@@ -1,14 +1,11 @@
 -- `checker::operand_count` meets its contract: the count is that of the words passed. Each word's is a `u32`, so the sum of eight fits.
 -- Assumes nothing.
 use mathlib.Core.Path.{◌≡◌}
-use Prim.Native.Nat.{◌*◌, ◌^◌, ◌≤◌, ◌-◌}
+use Prim.Native.Nat.{◌*◌, ◌^◌, ◌≤◌}
 use lib.ListN.{drop}
 use Rattle.system.specs.Query.{operand_count}
 use Rattle.numbers.specs.Numbers.{words_from}
 use Rattle.checker.proofs.operand_count.Given as goal
 
 abbrev pub invariant-loop-k : goal.invariant-loop-k
-invariant-loop-k l = (l.k ≤ l.d) × ((l.count ≤ 2 ^ 32 * l.k) × (l.count ≡ operand_count (words_from l.k (drop l.at l.file))))
-
-abbrev pub decreases-loop-k : goal.decreases-loop-k
-decreases-loop-k l = l.d - l.k
+invariant-loop-k l = (l.count ≤ 2 ^ 32 * l.k) × (l.count ≡ operand_count (words_from l.k (drop l.at l.file)))

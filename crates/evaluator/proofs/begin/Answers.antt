@@ -10,5 +10,5 @@ use Rattle.evaluator.proofs.begin.Goals as goal
 pub returns : goal.returns
 returns c =
     let z = c.args in
-    decided_none (system_in z.file.now z.m) z.m.levels _ c.initial_set.ensures
-    (c.full_set.ensures ∙ ap full (min-eq_left c.requires.laid_out.few_lines))
+    decided_none (system_in z.file.bytes.now z.file.model) z.file.model.levels _ c.initial_set.ensures
+    (c.full_set.ensures ∙ ap full (min-eq_left c.args.file.held.laid_out.few_lines))

@@ -1,9 +1,9 @@
--- `evaluator::initial_set` meets its contract. The loop's invariant: the digits of the set from line i on. The measure is the lines left.
+-- `evaluator::initial_set` meets its contract. The loop's invariant: the digits of the set from line i on.
 -- Assumes nothing.
 use mathlib.Core.Bool.{Bool}
 use mathlib.Core.List.{List}
 use mathlib.Core.Path.{◌≡◌}
-use Prim.Native.Nat.{ℕ, ◌+◌, ◌*◌, ◌/◌, ◌^◌, ◌≤◌}
+use Prim.Native.Nat.{ℕ, ◌+◌, ◌*◌, ◌/◌, ◌^◌}
 use lib.Dec.{eqb}
 use lib.ListN.{get_or}
 use Rattle.system.specs.Query.{set_of}
@@ -13,13 +13,5 @@ use Rattle.evaluator.proofs.initial_set.Given as goal
 abbrev pub is_one : List ℕ → ℕ → ℕ → ℕ → Bool
 is_one file first step j = eqb (get_or file (first + step * j) 0) 1
 
-pub record Passed (file : List ℕ) (first step n set i at : ℕ) : Type 0 where
-  pub few : i ≤ n
-  pub place : at ≡ first + step * i
-  pub digits : set ≡ set_of n (is_one file first step) / 2 ^ i
-
 abbrev pub invariant-loop-i : goal.invariant-loop-i
-invariant-loop-i l = Passed l.file l.first l.step l.initial.i l.set l.i l.at
-
-abbrev pub decreases-loop-i : goal.decreases-loop-i
-decreases-loop-i l = l.i
+invariant-loop-i l = l.set ≡ set_of l.file.model.lines (is_one l.file.bytes.now l.first l.step) / 2 ^ l.i

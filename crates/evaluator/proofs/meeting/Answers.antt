@@ -1,51 +1,29 @@
-use mathlib.Core.Bool.{Bool, true, false, cond, not, ◌&&◌, and-true, and-false}
-use mathlib.Core.List.{List}
-use mathlib.Core.Path.{◌≡◌, refl, sym, ◌∙◌, ap}
-use Prim.Native.Nat.{ℕ, ◌-◌, ◌*◌, ◌≤◌}
+use mathlib.Core.Bool.{Bool, true, false, cond, not, ◌&&◌, and-true}
+use mathlib.Core.Path.{◌≡◌, refl, ◌∙◌, ap}
+use Prim.Native.Nat.{ℕ, ◌-◌, ◌*◌, ◌≤◌, ◌<◌}
 use native.Mathlib.Omega.{arith}
-use borrow.Author.Tests.{eq-eqb, ne_eqb, eqb-true, eqb-false, le-leb, lt-leb, ltb-true, ltb-false, le-ltb}
+use borrow.Author.Tests.{eq-eqb, ne_eqb, eqb-true, eqb-false, le-leb, lt-leb}
 use lib.Bits.{bit_xor}
 use lib.Count.{count_trailing_zeros}
-use lib.Dec.{eqb, leb, ltb}
+use lib.Dec.{eqb, leb}
 use lib.ListN.{length, get_or}
 use Rattle.sets.specs.Set.{is_member, intersection, members}
 use Rattle.sets.proofs.Members.{members_empty, members_some}
 use Rattle.sets.proofs.Membership.{member_differ}
 use Rattle.system.specs.Query.{count_set}
-use Rattle.sets.proofs.PassedLines.{others_fewer, found_none, found_all, found_same, found_one}
+use Rattle.sets.proofs.PassedLines.{found_all, found_same, found_one}
 use Rattle.evaluator.proofs.LookedLines.{masked, count_masked, Looked, looked, in_lines}
 use Rattle.evaluator.proofs.meeting.Invariants.{part_of, some_of}
 use Rattle.evaluator.proofs.meeting.Goals as goal
-use Rattle.evaluator.proofs.meeting.Goals.{After-u64_at, In-loop-rest, Joined-operands-ne0, then-operands-ne0, else-operands-ne0}
-
-abbrev all_of : ℕ → List Bool → Bool
-all_of need bits = some_of bits && leb need (count_set bits)
-
-pub level_words-at-requires : goal.level_words-at-requires
-level_words-at-requires c = record {
-  held = c.requires.held;
-  k_lt_levels = c.requires.k_lt_levels.0;
-}
-
-pub loop-rest-init : goal.loop-rest-init
-loop-rest-init c = record { some = found_none _ _; part = found_none _ _ }
+use Rattle.evaluator.proofs.meeting.Goals.{After-u64_at, In-loop-rest, Joined-operands-ne0, then-operands-ne0, else-operands-ne0, else-need-gt1-via-then-need-gt1+else-member_count-need, else-need-gt1-via-else-need-gt1}
 
 -- the line that is looked at
 at_line : (c : In-loop-rest) →
     let z = c.args in
     let rest = c.loop-rest.rest in
-    Looked (length z.file.now) z.m.lines c.level_words-at.result (8 * z.m.levels) rest (count_trailing_zeros 64 rest)
+    Looked (length z.file.bytes.now) z.file.model.lines c.level_words-at.result (8 * z.file.model.levels) rest (count_trailing_zeros 64 rest)
 at_line c =
-    looked c.requires.held.laid_out c.requires.k_lt_levels.0 c.level_words-at.ensures refl c.requires.k_lt_levels.1 c.loop-rest.rest c.loop-rest.invariant.some.passed.few c.loop-rest-test.true
-
-pub overflow_cast-i : goal.overflow_cast-i
-overflow_cast-i c = omega (arith, (at_line (goal.at.overflow_cast-i c).In-loop-rest).low.low)
-
-pub overflow_mul-line-in-loop-rest : goal.overflow_mul-line-in-loop-rest
-overflow_mul-line-in-loop-rest c = omega (arith, (at_line (goal.at.overflow_mul-line-in-loop-rest c).In-loop-rest).room, c.well_formed)
-
-pub overflow_add-at : goal.overflow_add-at
-overflow_add-at c = omega (arith, (at_line (goal.at.overflow_add-at c).In-loop-rest).room, c.well_formed)
+    looked c.args.file.held.laid_out c.requires.0 c.level_words-at.ensures refl c.requires.1 c.loop-rest.rest c.loop-rest.invariant.some.passed.few c.loop-rest-test.true
 
 pub u64_at-requires : goal.u64_at-requires
 u64_at-requires c = (at_line (goal.at.u64_at-requires c).In-loop-rest).room
@@ -53,38 +31,36 @@ u64_at-requires c = (at_line (goal.at.u64_at-requires c).In-loop-rest).room
 -- the bits that a line's word selects are as many as its operands that are set
 counted : (c : After-u64_at) →
     let z = c.args in
-    count_set (masked z.file.now c.level_words-at.result (8 * z.m.levels) z.x (count_trailing_zeros 64 c.loop-rest.rest)) ≡ members (intersection c.u64_at.result z.x)
+    count_set (masked z.file.bytes.now c.level_words-at.result (8 * z.file.model.levels) z.x (count_trailing_zeros 64 c.loop-rest.rest)) ≡ members (intersection c.u64_at.result z.x)
 counted c =
     let z = c.args in
-    count_masked z.file.now c.level_words-at.result (8 * z.m.levels) z.x
+    count_masked z.file.bytes.now c.level_words-at.result (8 * z.file.model.levels) z.x
     (count_trailing_zeros 64 c.loop-rest.rest) c.u64_at.result c.u64_at.ensures (omega arith) (omega arith)
 
-module _ (bits : List Bool) (found : ℕ) (same : count_set bits ≡ members found) where
+-- a set has members if it is not empty
+some_found : (x : ℕ) → eqb (members x) 0 ≡ eqb x 0
+some_found x = go (eqb x 0) refl
+  where
+    go : (t : Bool) → eqb x 0 ≡ t → eqb (members x) 0 ≡ t
+    go true e = eq-eqb (members x) 0 (ap members (eqb-true x 0 e) ∙ members_empty)
+    go false e = ne_eqb (members x) 0 (λ (z : members x ≡ 0). omega (arith, members_some x (eqb-false x 0 e)))
+
+module _ {n : ℕ} (found : ℕ) (same : n ≡ members found) where
   -- so some are set where there is an operand
-  some_are : some_of bits ≡ not (eqb found 0)
-  some_are = ap (λ (n : ℕ). not (eqb n 0)) same ∙ ap not (go (eqb found 0) refl)
-    where
-      go : (t : Bool) → eqb found 0 ≡ t → eqb (members found) 0 ≡ t
-      go true e = eq-eqb (members found) 0 (ap members (eqb-true found 0 e) ∙ members_empty)
-      go false e = ne_eqb (members found) 0 (λ (z : members found ≡ 0). omega (arith, members_some found (eqb-false found 0 e)))
+  some_are : some_of n ≡ not (eqb found 0)
+  some_are = rw (same, some_found found)
 
   -- they are a part of what is needed if they are fewer
-  part_is : (need : ℕ) (t : Bool) → ltb (members found) need ≡ t → part_of need bits ≡ (not (eqb found 0) && t)
-  part_is need t e =
-      ap (λ (b : Bool). b && not (leb need (count_set bits))) some_are ∙ ap (λ (n : ℕ). not (eqb found 0) && not (leb need n)) same
-      ∙ ap (λ (b : Bool). not (eqb found 0) && b) (fewer t e)
-    where
-      fewer : (t : Bool) → ltb (members found) need ≡ t → not (leb need (members found)) ≡ t
-      fewer true e = ap not (lt-leb need (members found) (ltb-true (members found) need e))
-      fewer false e = ap not (le-leb need (members found) (ltb-false (members found) need e))
+  part_short : (need : ℕ) → members found < need → part_of need n ≡ not (eqb found 0)
+  part_short need h = rw (same, some_found found, lt-leb need (members found) h) (and-true (not (eqb found 0)))
 
-  -- one operand is enough
-  one_enough : (need : ℕ) → need ≤ 1 → part_of need bits ≡ false
-  one_enough need one = go (eqb found 0) refl
+  -- and not if they are enough, as one is where no more is needed
+  part_enough : (need : ℕ) → (1 ≤ members found → need ≤ members found) → part_of need n ≡ false
+  part_enough need h = rw (same, some_found found) (go (eqb found 0) refl)
     where
-      go : (t : Bool) → eqb found 0 ≡ t → part_of need bits ≡ false
-      go true e = part_is need (ltb (members found) need) refl ∙ rw e
-      go false e = part_is need false (le-ltb (members found) need (omega (arith, members_some found (eqb-false found 0 e)))) ∙ rw e
+      go : (t : Bool) → eqb found 0 ≡ t → (not t && not (leb need (members found))) ≡ false
+      go true e = refl
+      go false e = ap not (le-leb need (members found) (h (members_some found (eqb-false found 0 e))))
 
 -- the line itself where there is an operand, and else no line
 one_is : (c : Joined-operands-ne0) →
@@ -97,64 +73,31 @@ one_is c =
       | else-operands-ne0 w ↦ w.one-is ∙ rw (eq-eqb found 0 w.if-operands-ne0.false)
     ]
 
-pub bounds-needs-i : goal.bounds-needs-i
-bounds-needs-i c = (at_line (goal.at.bounds-needs-i c).In-loop-rest).low.low
-
-pub loop-rest-smaller-then-is_short : goal.loop-rest-smaller-then-is_short
-loop-rest-smaller-then-is_short c = others_fewer _ c.loop-rest-test.true
-
-pub loop-rest-smaller-else-is_short : goal.loop-rest-smaller-else-is_short
-loop-rest-smaller-else-is_short c = others_fewer _ c.loop-rest-test.true
-
-pub loop-rest-smaller : goal.loop-rest-smaller
-loop-rest-smaller c = others_fewer _ c.loop-rest-test.true
-
-pub loop-rest-preserved-then-is_short : goal.loop-rest-preserved-then-is_short
-loop-rest-preserved-then-is_short c =
-    let at = goal.at.loop-rest-preserved-then-is_short c in
-    let z = c.args in
-    let t = count_trailing_zeros 64 c.loop-rest.rest in
-    let bits = masked z.file.now c.level_words-at.result (8 * z.m.levels) z.x t in
-    let found = intersection c.u64_at.result z.x in
-    let need = get_or z.needs.now t 0 in
+pub loop-rest-preserved-then-member_count-need : goal.loop-rest-preserved-then-member_count-need
+loop-rest-preserved-then-member_count-need c =
+    let at = goal.at.loop-rest-preserved-then-member_count-need c in
     let low = (at_line at.In-loop-rest).low in
     let n = counted at.After-u64_at in
     let one = one_is at.Joined-operands-ne0 in
+    let short : members (intersection c.u64_at.result c.args.x) < get_or c.args.needs.now (count_trailing_zeros 64 c.loop-rest.rest) 0 = omega arith in
     record {
-      some = found_one _ _ low c.loop-rest.invariant.some _ _ (some_are bits found n) one;
-      part = found_one _ _ low c.loop-rest.invariant.part _ _ (part_is bits found n need true (sym c.is_short.ensures ∙ c.if-is_short.true) ∙ and-true (not (eqb found 0))) one;
-    }
-
-pub loop-rest-preserved-else-is_short : goal.loop-rest-preserved-else-is_short
-loop-rest-preserved-else-is_short c =
-    let at = goal.at.loop-rest-preserved-else-is_short c in
-    let z = c.args in
-    let t = count_trailing_zeros 64 c.loop-rest.rest in
-    let bits = masked z.file.now c.level_words-at.result (8 * z.m.levels) z.x t in
-    let found = intersection c.u64_at.result z.x in
-    let need = get_or z.needs.now t 0 in
-    let low = (at_line at.In-loop-rest).low in
-    let n = counted at.After-u64_at in
-    let one = one_is at.Joined-operands-ne0 in
-    record {
-      some = found_one _ _ low c.loop-rest.invariant.some _ _ (some_are bits found n) one;
-      part = found_same _ _ low c.loop-rest.invariant.part (part_is bits found n need false (sym c.is_short.ensures ∙ c.if-is_short.false) ∙ and-false (not (eqb found 0)));
+      some = found_one _ _ low c.loop-rest.invariant.some _ _ (some_are _ n) one;
+      part = found_one _ _ low c.loop-rest.invariant.part _ _ (part_short _ n _ short) one;
     }
 
 pub loop-rest-preserved : goal.loop-rest-preserved
 loop-rest-preserved c =
     let at = goal.at.loop-rest-preserved c in
-    let z = c.args in
-    let t = count_trailing_zeros 64 c.loop-rest.rest in
-    let bits = masked z.file.now c.level_words-at.result (8 * z.m.levels) z.x t in
-    let found = intersection c.u64_at.result z.x in
-    let need = get_or z.needs.now t 0 in
     let low = (at_line at.In-loop-rest).low in
     let n = counted at.After-u64_at in
-    let one = one_is at.Joined-operands-ne0 in
+    let found = members (intersection c.u64_at.result c.args.x) in
+    let enough : 1 ≤ found → get_or c.args.needs.now (count_trailing_zeros 64 c.loop-rest.rest) 0 ≤ found = λ some. elim c.else-need-gt1.branch [
+      | else-need-gt1-via-then-need-gt1+else-member_count-need w ↦ omega arith
+      | else-need-gt1-via-else-need-gt1 w ↦ omega arith
+    ] in
     record {
-      some = found_one _ _ low c.loop-rest.invariant.some _ _ (some_are bits found n) one;
-      part = found_same _ _ low c.loop-rest.invariant.part (one_enough bits found n need (omega (arith, c.if-need-gt1.false)));
+      some = found_one _ _ low c.loop-rest.invariant.some _ _ (some_are _ n) (one_is at.Joined-operands-ne0);
+      part = found_same _ _ low c.loop-rest.invariant.part (part_enough _ n _ enough);
     }
 
 -- those with operands but without the lowered ones have all that they need
@@ -173,6 +116,6 @@ returns c =
     let hit = found_all _ z.lines l.hit (rw end at l.invariant.some) in
     let lowered = found_all _ z.lines l.lowered (rw end at l.invariant.part) in record {
       met = (λ i. member_differ l.hit l.lowered i ∙ rw (hit i, lowered i) (all_told (is_member z.lines i) _ _)
-          ∙ in_lines c.requires.held.laid_out c.requires.k_lt_levels.0 begin refl c.requires.k_lt_levels.1 z.x i (λ t bits. t && all_of (get_or z.needs.now i 0) bits) (λ bs cs. refl));
-      lowered = (λ i. lowered i ∙ in_lines c.requires.held.laid_out c.requires.k_lt_levels.0 begin refl c.requires.k_lt_levels.1 z.x i (λ t bits. t && part_of (get_or z.needs.now i 0) bits) (λ bs cs. refl));
+          ∙ in_lines c.args.file.held.laid_out c.requires.0 begin refl c.requires.1 z.x i (λ t bits. t && (some_of (count_set bits) && leb (get_or z.needs.now i 0) (count_set bits))) (λ bs cs. refl));
+      lowered = (λ i. lowered i ∙ in_lines c.args.file.held.laid_out c.requires.0 begin refl c.requires.1 z.x i (λ t bits. t && part_of (get_or z.needs.now i 0) (count_set bits)) (λ bs cs. refl));
     }

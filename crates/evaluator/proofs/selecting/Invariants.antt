@@ -14,7 +14,7 @@ abbrev pub has : List ℕ → ℕ → ℕ → ℕ → ℕ → Bool
 has file at line x i = any (masked file at line x i)
 
 abbrev pub invariant-loop-rest : goal.invariant-loop-rest
-invariant-loop-rest l = FoundSoFar (has l.file l.at l.line l.x) l.lines l.rest l.found
+invariant-loop-rest l = FoundSoFar (has l.file.bytes.now l.at l.line l.x) l.lines l.rest l.found
 
 abbrev pub decreases-loop-rest : goal.decreases-loop-rest
 decreases-loop-rest l = l.rest

@@ -8,4 +8,4 @@ use Rattle.evaluator.proofs.settle.Goals as goal
 pub returns : goal.returns
 returns c = λ ys d.
     let z = c.args in
-    decided_all (system_in z.file.now z.m) (z.x ∷ ys) z.a z.b _ (c.decide-decision.ensures.next ys d).decided
+    decided_all (system_in z.file.bytes.now z.file.model) (z.x ∷ ys) z.bounds.low z.bounds.high _ (c.decide-decision.ensures.next ys d).decided

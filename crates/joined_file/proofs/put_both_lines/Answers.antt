@@ -6,7 +6,7 @@ use Prim.Native.Nat.{ℕ, ◌+◌, ◌*◌}
 use native.Mathlib.Omega.{arith}
 use lib.ListN.{length, drop}
 use Rattle.model.specs.File.{is_old, line_records}
-use Rattle.model.specs.Held.{system_in}
+use Rattle.model.specs.Files.{laid_system}
 use Rattle.model.proofs.RoundTrip.{records_length}
 use Rattle.model.proofs.Lines.{every_length, thresholds_length}
 use Rattle.lists.proofs.Front.{front_part}
@@ -16,13 +16,13 @@ use Rattle.joined_file.proofs.put_both_lines.Goals as goal
 pub returns : goal.returns
 returns c =
     let s = c.args.s.now in
-    let m = c.args.m in
-    let k = c.args.k in
-    let one = system_in c.args.first.now m in
-    let other = system_in c.args.second.now k in
+    let m = c.args.first.model in
+    let k = c.args.second.model in
+    let one = laid_system c.args.first in
+    let other = laid_system c.args.second in
     let front = line_records one.kinds one.thresholds in
     let kinds : length one.kinds ≡ m.lines = every_length _ _ _ in
-    let thresholds : length one.thresholds ≡ length one.kinds = thresholds_length (is_old m.lines m.levels c.args.first.now) _ _ ∙ sym kinds in
+    let thresholds : length one.thresholds ≡ length one.kinds = thresholds_length (is_old m.lines m.levels c.args.first.bytes.now) _ _ ∙ sym kinds in
     let written : length front ≡ 2 * m.lines = records_length one.kinds one.thresholds ∙ ap (λ (n : ℕ). 2 * n) kinds in
     front_part front (line_records other.kinds other.thresholds) s _ _ (2 * m.lines) (2 * k.lines) (2 * (m.lines + k.lines)) written (omega arith)
     c.put_line_records.ensures c.put_line_records-2.ensures

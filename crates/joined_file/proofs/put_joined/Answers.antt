@@ -11,7 +11,7 @@ use Rattle.model.specs.Held.{system_in}
 use Rattle.model.specs.declared.layout.Model.{Model}
 use Rattle.model.proofs.Lines.{every_length}
 use Rattle.encoder.proofs.Sections.{sections_copied}
-use Rattle.joined_file.specs.AtHand.{joined_in}
+use Rattle.joined_file.specs.AtHand.{joined_in, joined_laid}
 use Rattle.joined_file.proofs.put_joined.Goals as goal
 
 -- a kind for each line of both
@@ -21,18 +21,17 @@ both_kinds first second m k =
 
 pub returns : goal.returns
 returns c =
-    let first = c.args.first.now in
-    let second = c.args.second.now in
-    let m = c.args.m in
-    let k = c.args.k in
-    let ready = c.requires.at_hand in
-    let both = joined_in first m second k in
+    let first = c.args.first.bytes.now in
+    let m = c.args.first.model in
+    let k = c.args.second.model in
+    let laid = c.args.first.laid_out in
+    let both = joined_laid c.args.first c.args.second in
     let n = m.lines + k.lines in
     let d = m.levels in
     let kinds-at = c.kinds_at-kinds_at in
     let words_at = c.words_at-words_at in
-    let signs = length-take-le d (drop 16 first) (omega (arith, length-drop 16 first, ready.first_laid.laid, ready.first_laid.whole)) in
-    let kinds = both_kinds first second m k in
+    let signs = length-take-le d (drop 16 first) (omega (arith, length-drop 16 first, laid.laid, laid.whole)) in
+    let kinds = both_kinds first c.args.second.bytes.now m k in
     sections_copied n d both.signs both.kinds both.thresholds both.words c.args.buffer.now
     kinds-at.result words_at.result (file_length n d) (2 * n) (8 * (n * d))
     (omega (arith, signs, kinds-at.ensures)) (ap (λ (j : ℕ). 2 * j) kinds) (omega (arith, kinds-at.ensures, words_at.ensures)) (omega (arith, words_at.ensures)) _ _ _ _

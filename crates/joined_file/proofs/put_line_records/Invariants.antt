@@ -2,15 +2,11 @@
 -- Assumes nothing.
 use mathlib.Core.List.{◌++◌}
 use mathlib.Core.Path.{◌≡◌}
-use Prim.Native.Nat.{◌-◌, ◌*◌, ◌≤◌}
-use lib.ListN.{length, take, drop}
+use Prim.Native.Nat.{◌*◌}
+use lib.ListN.{take, drop}
 use Rattle.model.specs.File.{line_records}
-use Rattle.model.specs.Held.{system_in}
+use Rattle.model.specs.Files.{laid_system}
 use Rattle.joined_file.proofs.put_line_records.Given as goal
 
 abbrev pub invariant-loop-i : goal.invariant-loop-i
-invariant-loop-i l =
-    (l.i ≤ l.n) × (l.s ≡ line_records (take l.i (system_in l.file l.m).kinds) (system_in l.file l.m).thresholds ++ drop (2 * l.i) l.initial.s) × (length l.s ≡ length l.initial.s)
-
-abbrev pub decreases-loop-i : goal.decreases-loop-i
-decreases-loop-i l = l.n - l.i
+invariant-loop-i l = l.s ≡ line_records (take l.i (laid_system l.file).kinds) (laid_system l.file).thresholds ++ drop (2 * l.i) l.initial.s

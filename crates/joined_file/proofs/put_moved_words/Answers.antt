@@ -1,6 +1,6 @@
 use mathlib.Core.List.{List, ◌++◌, map}
 use mathlib.Core.Path.{◌≡◌, refl, sym, ◌∙◌, ap, subst}
-use Prim.Native.Nat.{ℕ, ◌+◌, ◌*◌, ◌%◌, ◌^◌, ◌≤◌, ◌<◌, zero-le}
+use Prim.Native.Nat.{ℕ, ◌+◌, ◌*◌, ◌%◌, ◌^◌, ◌≤◌, ◌<◌}
 use native.Mathlib.Nat.{mul-zero, mul_comm, mul-le-mul_right, mod-eq_of_lt, lt_of_lt_of_le}
 use native.Mathlib.Omega.{arith}
 use lib.ListN.{length, get_or, drop, length-map, get_or-map}
@@ -11,8 +11,6 @@ use Rattle.numbers.specs.Numbers.{number_at, words_from, word_bytes}
 use Rattle.numbers.proofs.Codec.{words_length, word_at, word_stored}
 use Rattle.lists.proofs.Front.{front_all}
 use Rattle.lists.proofs.Below.{below_at}
-use Rattle.model.proofs.Places.{header_whole}
-use Rattle.model.proofs.Sizes.{few_words}
 use Rattle.joined_file.proofs.put_moved_words.Invariants.{moved}
 use Rattle.joined_file.proofs.put_moved_words.Goals as goal
 use Rattle.joined_file.proofs.put_moved_words.Goals.{In-loop-j}
@@ -32,61 +30,40 @@ shifted n up w h few =
     let high : w * 2 ^ up < 2 ^ (up + n) = omega (arith, mul-le-mul_right (2 ^ up) h, pow-add 2 up n, mul_comm (2 ^ up) (2 ^ n), pow_pos up) in
     mod-eq_of_lt (lt_of_lt_of_le high (pow_mono few)) ∙ mul_comm w (2 ^ up)
 
-pub words_in-first-requires : goal.words_in-first-requires
-words_in-first-requires c = header_whole c.requires.laid_out
-
-pub overflow_mul-count : goal.overflow_mul-count
-overflow_mul-count c = omega (arith, few_words c.requires.laid_out.few_lines c.requires.laid_out.few_levels)
-
 pub loop-j-init : goal.loop-j-init
 unfolding word_bytes
-loop-j-init c = (zero-le, refl, refl, refl)
-
--- the word that is to be moved stands in the file
-in_file : (c : In-loop-j) → c.words_in-first.result + 8 * c.loop-j.j + 8 ≤ length c.args.file.now
-in_file c =
-    omega (arith, c.words_in-first.ensures, c.requires.laid_out.whole, c.loop-j-test.true)
-
-pub overflow_add-first : goal.overflow_add-first
-overflow_add-first c = omega (arith, in_file (goal.at.overflow_add-first c).In-loop-j)
-
-pub u64_at-requires : goal.u64_at-requires
-u64_at-requires c = in_file (goal.at.u64_at-requires c).In-loop-j
+loop-j-init c = refl
 
 pub loop-j-preserved : goal.loop-j-preserved
 loop-j-preserved c =
-    let file = c.args.file.now in
+    let file = c.args.file.bytes.now in
     let up = c.args.up in
     let first = c.words_in-first.result in
-    let n = c.args.m.lines in
-    let count = n * c.args.m.levels in
+    let n = c.args.file.model.lines in
+    let count = n * c.args.file.model.levels in
     let j = c.loop-j.j in
-    let inv = c.loop-j.invariant in
     let inside : j < count = c.loop-j-test.true in
     let words = moved file up first count in
     let many : length words ≡ count = length-map (words_from count (drop first file)) (moved_up up) ∙ words_length count (drop first file) in
-    let read = c.u64_at in
+    let read = c.u64_at-word in
     let low : read.result < 2 ^ n =
     subst (λ (w : ℕ). w < 2 ^ n)
     (ap (λ (at : ℕ). get_or (words_from count (drop at file)) j 0) (sym c.words_in-first.ensures) ∙ word_here file first count j inside ∙ sym read.ensures)
     (below_at c.requires.all_below j (rw words_length inside)) in
     let value : read.result * 2 ^ up % 2 ^ 64 ≡ get_or words j 0 =
-    shifted n up read.result low c.requires.up_bound.1 ∙ ap (moved_up up) read.ensures ∙ sym (moved_here file up first count j inside) in (
-      omega arith,
-      omega arith,
-      word_stored words c.args.s.now c.loop-j.s _ j c.loop-j.at _ (omega arith) inv.1 value inv.2 c.put_number.ensures,
-      omega arith,
-    )
+    shifted n up read.result low c.requires.up_bound.1 ∙ ap (moved_up up) read.ensures ∙ sym (moved_here file up first count j inside) in
+    let next : 8 * j + 8 ≡ 8 * (j + 1) = omega arith in
+    word_stored words c.args.s.now c.loop-j.s _ j (8 * j) _ (omega arith) refl value c.loop-j.invariant c.put_number.ensures ∙ rw next
 
 pub returns : goal.returns
 returns c =
-    let file = c.args.file.now in
+    let file = c.args.file.bytes.now in
     let up = c.args.up in
     let first = c.words_in-first.result in
-    let count = c.args.m.lines * c.args.m.levels in
+    let count = c.args.file.model.lines * c.args.file.model.levels in
     let words = moved file up first count in
     let many : length words ≡ count = length-map (words_from count (drop first file)) (moved_up up) ∙ words_length count (drop first file) in
     let all : c.loop-j.j ≡ length words = omega arith in
-    let end : c.loop-j.at ≡ 8 * count = omega arith in
-    front_all word_bytes words c.args.s.now all end c.loop-j.invariant.2
+    let end : 8 * c.loop-j.j ≡ 8 * count = omega arith in
+    front_all word_bytes words c.args.s.now all end c.loop-j.invariant
     ∙ ap (λ (at : ℕ). word_bytes (moved file up at count) ++ drop (8 * count) c.args.s.now) c.words_in-first.ensures

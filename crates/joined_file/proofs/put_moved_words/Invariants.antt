@@ -2,8 +2,8 @@
 -- Assumes nothing.
 use mathlib.Core.List.{List, ◌++◌, map}
 use mathlib.Core.Path.{◌≡◌}
-use Prim.Native.Nat.{ℕ, ◌-◌, ◌*◌, ◌≤◌}
-use lib.ListN.{length, take, drop}
+use Prim.Native.Nat.{ℕ, ◌*◌}
+use lib.ListN.{take, drop}
 use Rattle.sets.specs.SideBySide.{moved_up}
 use Rattle.numbers.specs.Numbers.{words_from, word_bytes}
 use Rattle.joined_file.proofs.put_moved_words.Given as goal
@@ -13,8 +13,4 @@ abbrev pub moved : List ℕ → ℕ → ℕ → ℕ → List ℕ
 moved file up first count = map (moved_up up) (words_from count (drop first file))
 
 abbrev pub invariant-loop-j : goal.invariant-loop-j
-invariant-loop-j l =
-    (l.j ≤ l.count) × (l.at ≡ 8 * l.j) × (l.s ≡ word_bytes (take l.j (moved l.file l.up l.first l.count)) ++ drop l.at l.initial.s) × (length l.s ≡ length l.initial.s)
-
-abbrev pub decreases-loop-j : goal.decreases-loop-j
-decreases-loop-j l = l.count - l.j
+invariant-loop-j l = l.s ≡ word_bytes (take l.j (moved l.file.bytes.now l.up l.first l.j-end)) ++ drop (8 * l.j) l.initial.s

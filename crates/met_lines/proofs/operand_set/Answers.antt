@@ -1,27 +1,36 @@
-use mathlib.Core.Path.{◌≡◌, ◌∙◌, ap₂}
-use Prim.Native.Nat.{suc, ◌+◌, ◌-◌, ◌*◌}
-use native.Mathlib.Nat.{sub_self}
+use mathlib.Core.List.{List, [], ◌∷◌, ◌++◌}
+use mathlib.Core.Path.{◌≡◌, refl, sym, ◌∙◌, ap, ap₂}
+use Prim.Native.Nat.{ℕ, ◌*◌}
 use native.Mathlib.Omega.{arith}
+use lib.Bits.{or_comm}
+use lib.ListN.{drop}
 use lib.Seq.{drop-drop}
 use Rattle.sets.specs.Set.{union}
+use Rattle.sets.proofs.Order.{digit_join, same_digits}
 use Rattle.numbers.specs.Numbers.{words_from}
+use Rattle.numbers.proofs.Codec.{words_more}
 use Rattle.met_lines.specs.MetLines.{union_of}
 use Rattle.met_lines.proofs.operand_set.Goals as goal
 
+union_assoc : (a b c : ℕ) → union a (union b c) ≡ union (union a b) c
+union_assoc a b c =
+    same_digits (union a (union b c)) (union (union a b) c)
+    (λ i. omega (arith, digit_join a (union b c) i, digit_join b c i, digit_join (union a b) c i, digit_join a b i))
+
+-- one set more, behind the others
+union_last : (ws : List ℕ) (w : ℕ) → union_of (ws ++ (w ∷ [])) ≡ union (union_of ws) w
+unfolding union_of
+union_last [] w = or_comm w 0
+union_last (v ∷ ws) w = ap (union v) (union_last ws w) ∙ union_assoc v (union_of ws) w
+
 pub loop-k-init : goal.loop-k-init
 unfolding words_from union_of
-loop-k-init c = record { few = omega arith; so_far = rw (sub_self c.args.d) }
+loop-k-init c = refl
 
--- one word more in front
 pub loop-k-preserved : goal.loop-k-preserved
-unfolding words_from union_of
 loop-k-preserved c =
-    let z = c.args in
     let l = c.loop-k in
-    let some = c.loop-k-test.true in
-    let more : z.d - (l.k - 1) ≡ suc (z.d - l.k) = omega (arith, l.invariant.few) in
-    let further : z.at + 8 * (l.k - 1) + 8 ≡ z.at + 8 * l.k = omega arith in
-    record {
-      few = omega (arith, l.invariant.few);
-      so_far = ap₂ union c.u64_at-set.ensures l.invariant.so_far ∙ rw (more, drop-drop 8 (z.at + 8 * (l.k - 1)) z.file.now, further);
-    }
+    let at = c.args.at in
+    let file = c.args.file.now in
+    ap₂ union l.invariant (c.u64_at-set.ensures ∙ rw (drop-drop (8 * l.k) at file))
+    ∙ sym (ap union_of (words_more l.k (drop at file)) ∙ union_last (words_from l.k (drop at file)) _)

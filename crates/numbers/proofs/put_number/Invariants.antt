@@ -2,13 +2,10 @@
 -- Assumes nothing.
 use mathlib.Core.List.{◌++◌}
 use mathlib.Core.Path.{◌≡◌}
-use Prim.Native.Nat.{◌-◌, ◌/◌, ◌^◌, ◌≤◌}
-use lib.ListN.{length, drop}
+use Prim.Native.Nat.{◌/◌, ◌^◌}
+use lib.ListN.{drop}
 use Rattle.numbers.specs.Numbers.{bytes_of}
 use Rattle.numbers.proofs.put_number.Given as goal
 
 abbrev pub invariant-loop-i : goal.invariant-loop-i
-invariant-loop-i l = (l.i ≤ l.k) × (l.rest ≡ l.x / 256 ^ l.i) × (l.s ≡ bytes_of l.i l.x ++ drop l.i l.initial.s) × (length l.s ≡ length l.initial.s)
-
-abbrev pub decreases-loop-i : goal.decreases-loop-i
-decreases-loop-i l = l.k - l.i
+invariant-loop-i l = (l.rest ≡ l.x / 256 ^ l.i) × (l.s ≡ bytes_of l.i l.x ++ drop l.i l.initial.s)

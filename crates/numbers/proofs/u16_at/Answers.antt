@@ -1,9 +1,8 @@
--- `numbers::u16_at` meets its contract: two bytes are one and one.
+-- `numbers::u16_at` meets its contract: its bytes, added up as they are worth, are the number.
 -- Assumes nothing.
-use mathlib.Core.Path.{◌∙◌}
-use native.Mathlib.Omega.{arith}
-use Rattle.numbers.proofs.Little.{number_two}
+use Rattle.std.proofs.Common.{◌∙◌}
+use Rattle.numbers.proofs.Little.{copied_number}
 use Rattle.numbers.proofs.u16_at.Goals as goal
 
 pub returns : goal.returns
-returns c = c.two_bytes.ensures ∙ number_two _ c.args.at (omega (arith, c.requires))
+returns c = c.from_le_bytes.ensures ∙ copied_number c.args.s.now _ c.args.at 1 c.requires c.bytes_at.ensures

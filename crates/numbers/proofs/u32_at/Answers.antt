@@ -1,9 +1,8 @@
--- `numbers::u32_at` meets its contract: its bytes are two halves.
+-- `numbers::u32_at` meets its contract: its bytes, added up as they are worth, are the number.
 -- Assumes nothing.
-use native.Mathlib.Omega.{arith}
-use Rattle.numbers.proofs.Little.{number_twice}
+use Rattle.std.proofs.Common.{◌∙◌}
+use Rattle.numbers.proofs.Little.{copied_number}
 use Rattle.numbers.proofs.u32_at.Goals as goal
 
 pub returns : goal.returns
-returns c =
-    omega (arith, number_twice c.args.s.now c.args.at 2 c.requires)
+returns c = c.from_le_bytes.ensures ∙ copied_number c.args.s.now _ c.args.at 3 c.requires c.bytes_at.ensures

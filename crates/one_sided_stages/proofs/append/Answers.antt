@@ -5,7 +5,7 @@ use Rattle.one_sided_stages.proofs.append.Goals as goal
 use Rattle.one_sided_stages.proofs.append.Goals.{then-not-flags-i, else-not-flags-i}
 
 pub loop-i-init : goal.loop-i-init
-loop-i-init c = record { flags_long = c.requires.to_le_w.2; queue_long = c.requires.to_le_w.3; queued = c.requires.queued_2; flagging = flagging_none _ _ _ }
+loop-i-init c = record { flags_long = omega arith; queue_long = omega arith; queued = c.requires.queued_2; flagging = flagging_none _ _ _ }
 
 pub offset_bounds-queue-end : goal.offset_bounds-queue-end
 offset_bounds-queue-end c = omega (arith, queued_few c.loop-i.invariant.queued)
@@ -27,7 +27,6 @@ loop-i-preserved c =
 
 pub returns : goal.returns
 returns c = let l = c.loop-i in record {
-  long = (l.invariant.flags_long, l.invariant.queue_long);
   queued = l.invariant.queued;
   flagged = flagging_end l.invariant.flagging (omega arith);
 }

@@ -11,6 +11,7 @@ use Rattle.system.specs.System.{sign}
 use Rattle.system.specs.Query.{query}
 use Rattle.model.specs.declared.layout.Model.{Model}
 use Rattle.model.specs.Held.{system_in}
+use Rattle.model.specs.Files.{held_system}
 use Rattle.one_sided_leaves.specs.Leaves.{arguments_in}
 use Rattle.one_sided_stages.specs.Stages.{readings}
 use Rattle.one_sided_leaves.proofs.Blocks.{argument_within, places_of_arguments}
@@ -26,56 +27,44 @@ argument_in file m v args i k h few e l =
 pub returns-then-lines-eq0 : goal.returns-then-lines-eq0
 returns-then-lines-eq0 c =
     let z = c.args in
-    let g = c.requires.grows z.i (omega (arith, c.requires.held.1)) in
+    let g = c.requires.grows z.i (omega (arith, c.requires.linked.0)) in
     part_alone (get_or z.state.now z.i 0) (get_or z.state.now (z.i + 1) 0) _ g.1 c.if-lines-eq0.true
-
-pub find_arguments-requires : goal.find_arguments-requires
-find_arguments-requires c = record {
-  held = (c.requires.held.0, c.requires.held.1, c.requires.held.2);
-  args_len = refl;
-}
 
 pub offset_bounds-state-y : goal.offset_bounds-state-y
 offset_bounds-state-y c =
     let z = c.args in
     let k = c.loop-k.k in
-    omega (arith, argument_in z.file.now z.m z.v.now _ z.i k c.requires.held.1 c.requires.held.2.few c.find_arguments.ensures.args_after c.loop-k-test.true)
+    omega (arith, argument_in z.file.bytes.now z.file.model z.v.now _ z.i k c.requires.linked.0 c.requires.linked.1.few c.find_arguments.ensures c.loop-k-test.true)
 
 pub bounds-state-y : goal.bounds-state-y
 bounds-state-y c =
     let z = c.args in
     let k = c.loop-k.k in
-    argument_in z.file.now z.m z.v.now _ z.i k c.requires.held.1 c.requires.held.2.few c.find_arguments.ensures.args_after c.loop-k-test.true
+    argument_in z.file.bytes.now z.file.model z.v.now _ z.i k c.requires.linked.0 c.requires.linked.1.few c.find_arguments.ensures c.loop-k-test.true
 
 pub loop-k-preserved : goal.loop-k-preserved
 loop-k-preserved c =
     let z = c.args in
     let l = c.loop-k in
-    let inside = c.loop-k-test.true in
-    let found = c.find_arguments in (
-      omega arith,
-      simp length-set l.invariant.1,
-      rw add-one (reading_more z.state.now _ l.ys l.k (omega (arith, c.requires.held.0.laid_out.few_levels, found.ensures.args_len_2)) (omega (arith, c.requires.held.0.laid_out.few_levels)) l.invariant.2),
-    )
+    let few = z.file.held.laid_out.few_levels in
+    (simp length-set l.invariant.0, rw add-one (reading_more z.state.now _ l.ys l.k (omega (arith, few, c.type_inv.args)) (omega (arith, few)) l.invariant.1))
 
 pub evaluate_lines-requires : goal.evaluate_lines-requires
 evaluate_lines-requires c =
     let z = c.args in
-    let g = c.requires.grows z.i (omega (arith, c.requires.held.1)) in record {
-      held = c.requires.held.0;
-      levels_in_bounds = (omega (arith, c.requires.held.0.laid_out.few_levels), intersection_below z.m.lines (get_or z.state.now z.i 0) _ g.0);
-    }
+    let g = c.requires.grows z.i (omega (arith, c.requires.linked.0)) in
+    (omega (arith, z.file.held.laid_out.few_levels), intersection_below z.file.model.lines (get_or z.state.now z.i 0) _ g.0)
 
 pub returns : goal.returns
 returns c =
     let z = c.args in
     let l = c.loop-k in
     let found = c.find_arguments in
-    let all : l.k ≡ z.m.levels = omega (arith, l.invariant.0) in
+    let all : l.k ≡ z.file.model.levels = omega arith in
     let bound = get_or z.state.now z.i 0 in
     let part = get_or z.state.now (z.i + 1) 0 in
-    let f = query (system_in z.file.now z.m) in
-    let g = c.requires.grows z.i (omega (arith, c.requires.held.1)) in
+    let f = query (held_system z.file) in
+    let g = c.requires.grows z.i (omega (arith, c.requires.linked.0)) in
     ap (union part) (c.evaluate_lines.ensures
-    ∙ ap (λ (xs : List ℕ). intersection (intersection bound (bit_xor bound part)) (f xs)) (subst (λ (k : ℕ). take k l.ys ≡ readings z.state.now (take k found.new.args)) all l.invariant.2 ∙ ap (readings z.state.now) found.ensures.args_after))
-    ∙ part_and_rest bound part (f (readings z.state.now (arguments_in z.file.now z.m z.v.now z.i))) g.1
+    ∙ ap (λ (xs : List ℕ). intersection (intersection bound (bit_xor bound part)) (f xs)) (subst (λ (k : ℕ). take k l.ys ≡ readings z.state.now (take k found.new.args)) all l.invariant.1 ∙ ap (readings z.state.now) found.ensures))
+    ∙ part_and_rest bound part (f (readings z.state.now (arguments_in z.file.bytes.now z.file.model z.v.now z.i))) g.1

@@ -1,13 +1,12 @@
 use mathlib.Core.Path.{refl}
 use native.Mathlib.Omega.{arith}
-use lib.ListN.{length-set}
 use Rattle.one_sided_stages.proofs.Queue.{queued_none, taking_none, taking_more, taking_values, taking_flags}
 use Rattle.one_sided_stages.proofs.take_over.Goals as goal
 
 pub loop-p-init : goal.loop-p-init
 loop-p-init c =
     let p = c.requires in
-    (p.state_len.0, p.state_len.1, p.state_len.2, queued_none _ _ _ p.listed.1, taking_none _ _ _ _ _ _ _ p.listed.1)
+    (queued_none _ _ _ p.listed.1, taking_none _ _ _ _ _ _ _ p.listed.1)
 
 pub overflow_cast-y : goal.overflow_cast-y
 overflow_cast-y c = omega (arith, c.requires.listed.0.inside c.loop-p.p (omega arith))
@@ -43,27 +42,23 @@ overflow_cast-to c =
 pub append-number-requires : goal.append-number-requires
 append-number-requires c =
     let l = c.loop-p in record {
-      to_le_w = (c.requires.by_index _ (c.requires.listed.0.inside l.p (omega arith)), omega (arith, c.requires.v_len_bound), l.invariant.1, l.invariant.2);
-      queued_2 = l.invariant.3;
+      to_le_w = (c.requires.by_index _ (c.requires.listed.0.inside l.p (omega arith)), omega (arith, c.requires.v_len_bound));
+      queued_2 = l.invariant.0;
     }
 
 pub loop-p-preserved : goal.loop-p-preserved
 loop-p-preserved c =
     let l = c.loop-p in
     let small = c.requires.listed.0.inside l.p (omega arith) in (
-      simp length-set l.invariant.0,
-      c.append-number.ensures.long.0,
-      c.append-number.ensures.long.1,
       c.append-number.ensures.queued,
-      taking_more c.requires.listed.0 l.invariant.4 (omega arith) _ refl (omega (arith, l.invariant.0, c.requires.v_len_bound)) _ c.append-number.ensures.flagged,
+      taking_more c.requires.listed.0 l.invariant.1 (omega arith) _ refl (omega (arith, c.requires.v_len_bound)) _ c.append-number.ensures.flagged,
     )
 
 pub returns : goal.returns
 returns c =
     let l = c.loop-p in
     let listed = c.requires.listed.0 in record {
-      long = (l.invariant.0, l.invariant.1, l.invariant.2);
-      taken = taking_values listed l.invariant.4 (omega arith);
-      flagged = taking_flags listed l.invariant.4 (omega arith);
-      queued = l.invariant.3;
+      taken = taking_values listed l.invariant.1 (omega arith);
+      flagged = taking_flags listed l.invariant.1 (omega arith);
+      queued = l.invariant.0;
     }

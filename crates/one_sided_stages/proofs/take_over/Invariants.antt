@@ -1,9 +1,6 @@
 -- `one_sided_stages::take_over` meets its contract. The loop's invariant: the listed words passed are taken over, and the leaves due by them are flagged
 -- and in the queue.
 -- Assumes nothing.
-use mathlib.Core.Path.{◌≡◌}
-use Prim.Native.Nat.{◌-◌}
-use lib.ListN.{length}
 use Rattle.trees.specs.Tree.{leaves}
 use Rattle.one_sided_stages.specs.Stages.{Queued}
 use Rattle.one_sided_stages.proofs.Queue.{Taking}
@@ -11,7 +8,4 @@ use Rattle.one_sided_stages.proofs.take_over.Given as goal
 
 abbrev pub invariant-loop-p : goal.invariant-loop-p
 invariant-loop-p l =
-    (length l.state ≡ 1025) × (length l.flags ≡ 1024) × (length l.queue ≡ 1024) × Queued (leaves l.v) l.flags l.queue l.number × Taking (leaves l.v) l.words l.changed l.from l.to l.initial.state l.state l.flags l.p
-
-abbrev pub decreases-loop-p : goal.decreases-loop-p
-decreases-loop-p l = l.others - l.p
+    Queued (leaves l.v) l.flags l.queue l.number × Taking (leaves l.v) l.words l.changed l.from l.to l.initial.state l.state l.flags l.p

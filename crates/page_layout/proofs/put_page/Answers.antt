@@ -12,32 +12,30 @@ use Rattle.page_layout.proofs.put_page.Goals as goal
 use Rattle.page_layout.proofs.put_page.Goals.{After-met_share-share, After-put_first_row-rows}
 
 share_fits : (c : After-met_share-share) → c.met_share-share.result ≤ 1000
-share_fits c = rw c.met_share-share.ensures (met_few (system_in c.args.file.now c.args.m) c.args.good)
+share_fits c = rw c.met_share-share.ensures (met_few (system_in c.args.file.bytes.now c.args.file.model) c.args.good)
 
 -- the first row is 41 bytes long
 rows_at : (c : After-put_first_row-rows) → c.met_share-share.result ≤ 1000 → c.put_first_row-rows.result ≡ 41
 rows_at c few =
-    let held = c.requires.laid_out in
+    let laid = c.args.file.laid_out in
     omega (
       arith,
       c.put_first_row-rows.ensures.end,
-      first_row_length c.args.m.lines c.args.m.levels c.met_share-share.result (omega (arith, held.few_lines)) (omega (arith, held.few_levels)) (omega arith),
+      first_row_length c.args.file.model.lines c.args.file.model.levels c.met_share-share.result (omega (arith, laid.few_lines)) (omega (arith, laid.few_levels)) (omega arith),
     )
 
 pub put_first_row-rows-requires : goal.put_first_row-rows-requires
 put_first_row-rows-requires c =
-    let held = c.requires.laid_out in record {
-      lines_bound = (held.few_lines, held.few_levels);
+    let laid = c.args.file.laid_out in record {
+      lines_bound = (laid.few_lines, laid.few_levels);
       share_bound = share_fits (goal.at.put_first_row-rows-requires c).After-met_share-share;
       in_bounds = omega (arith, c.requires.lines_in_bounds);
     }
 
 pub put_line_rows-requires : goal.put_line_rows-requires
 put_line_rows-requires c =
-    let at = goal.at.put_line_rows-requires c in record {
-      laid_out = c.requires.laid_out;
-      lines_in_bounds = omega (arith, rows_at at.After-put_first_row-rows (share_fits at.After-met_share-share), c.requires.lines_in_bounds);
-    }
+    let at = goal.at.put_line_rows-requires c in
+    omega (arith, rows_at at.After-put_first_row-rows (share_fits at.After-met_share-share), c.requires.lines_in_bounds)
 
 pub returns : goal.returns
 unfolding page

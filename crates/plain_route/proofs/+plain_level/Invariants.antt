@@ -2,29 +2,30 @@
 -- from the present value does under what is left of the ceiling (Rounds.antt); what is left falls with every round.
 -- Assumes nothing.
 use Rattle.std.proofs.Common.{List, ◌∷◌, ℕ, suc, ◌≤◌, ◌<◌}
-use Rattle.model.specs.declared.layout.Model.{Model}
-use Rattle.model.specs.Held.{system_in}
+use Rattle.system.specs.System.{System}
+use Rattle.model.specs.Files.{held_system}
 use Rattle.fixpoint.specs.Plain.{Run}
 use Rattle.evaluator.specs.ByLevels.{Carried}
-use Rattle.evaluator.specs.declared.Pending.{Pending}
+use Rattle.evaluator.specs.declared.Bounds.{Bounds}
+use Rattle.evaluator.specs.declared.Carry.{Carry}
 use Rattle.routes.specs.Parts.{plain_from}
 use Rattle.plain_route.proofs.Rounds.{Ahead}
 use Rattle.plain_route.proofs.+plain_level.Given as goal
 
 -- one round of the level above `below` levels, as a function of its argument
-abbrev pub round_of : ℕ → List ℕ → Model → ℕ → ℕ → ℕ → List ℕ → ℕ → Run ℕ
-round_of rounds file m a b below ys x = plain_from rounds (system_in file m) a b below (x ∷ ys)
+abbrev pub round_of : ℕ → System → Bounds → ℕ → List ℕ → ℕ → Run ℕ
+round_of rounds s bounds below ys x = plain_from rounds s bounds.low bounds.high below (x ∷ ys)
 
-pub record Going (file : List ℕ) (m : Model) (a b : ℕ) (w : Pending) (rules : List ℕ) (left below x rest : ℕ) : Type 0 where
+pub record Going (s : System) (bounds : Bounds) (carry : Carry) (left below x rest : ℕ) : Type 0 where
   pub down : rest ≤ left
-  pub ahead : (rounds : ℕ) → left < rounds → (ys : List ℕ) → Carried (system_in file m) (suc below) ys a b w rules
-      → Ahead (round_of rounds file m a b below ys) (plain_from rounds (system_in file m) a b (suc below) ys) left x rest
+  pub ahead : (rounds : ℕ) → left < rounds → (ys : List ℕ) → Carried s (suc below) ys bounds.low bounds.high carry.pending carry.needs.now
+      → Ahead (round_of rounds s bounds below ys) (plain_from rounds s bounds.low bounds.high (suc below) ys) left x rest
 
 abbrev pub decreases-plain_level : goal.decreases-plain_level
 decreases-plain_level l = l.k
 
-abbrev pub invariant-loop-next : goal.invariant-loop-next
-invariant-loop-next l = Going l.file l.m l.a l.b l.w l.needs l.left l.below l.x l.rest
+abbrev pub invariant-loop-decision : goal.invariant-loop-decision
+invariant-loop-decision l = Going (held_system l.file) l.bounds l.carry l.left l.below l.x l.rest
 
-abbrev pub decreases-loop-next : goal.decreases-loop-next
-decreases-loop-next l = l.rest
+abbrev pub decreases-loop-decision : goal.decreases-loop-decision
+decreases-loop-decision l = l.rest

@@ -5,10 +5,9 @@ use native.Mathlib.Nat.{le_refl}
 use native.Mathlib.Omega.{arith}
 use Rattle.fixpoint.specs.Plain.{plain}
 use Rattle.evaluator.specs.ByLevels.{Carried}
-use Rattle.model.specs.Held.{system_in}
+use Rattle.model.specs.Files.{held_system}
 use Rattle.plain_route.specs.Under.{under}
-use Rattle.plain_route.specs.declared.Outcome.TheVariants.{Settled}
-use Rattle.plain_route.proofs.Rounds.{one_query, no_query, round_spent, round_same, round_more}
+use Rattle.plain_route.proofs.Rounds.{settled, one_query, no_query, round_spent, round_same, round_more}
 use Rattle.plain_route.proofs.innermost_rounds.Invariants.{round_of}
 use Rattle.plain_route.proofs.innermost_rounds.Goals as goal
 use Rattle.plain_route.proofs.innermost_rounds.Goals.{After-settle-set}
@@ -17,15 +16,16 @@ use Rattle.plain_route.proofs.innermost_rounds.Goals.{After-settle-set}
 outcome : (c : After-settle-set) →
     let z = c.args in
     let l = c.loop-rest in
-    let s = system_in z.file.now z.m in
-    (ys : List ℕ) → Carried s 1 ys z.a z.b z.w z.needs.now → under l.rest (round_of s z.a z.b ys l.x) ≡ Settled c.settle-set.result (l.rest - 1)
+    let s = held_system z.file in
+    (ys : List ℕ) → Carried s 1 ys z.bounds.low z.bounds.high z.carry.pending z.carry.needs.now
+    → under l.rest (round_of s z.bounds ys l.x) ≡ settled c.settle-set.result (l.rest - 1)
 outcome c ys d =
     let l = c.loop-rest in
     rw (← c.settle-set.ensures ys d) (one_query l.rest c.settle-set.result (λ e. omega (arith, c.loop-rest-test.true)))
 
 pub loop-rest-init : goal.loop-rest-init
 unfolding plain
-loop-rest-init c = λ rounds h ys d. record { fuel = rounds; more = h; same = rw c.start_of-x.ensures }
+loop-rest-init c = λ rounds h ys d. record { fuel = rounds; more = h; same = rw (c.start-x.ensures, c.is_greatest.ensures) }
 
 pub returns-then-set-x : goal.returns-then-set-x
 returns-then-set-x c = λ rounds h ys d.
@@ -38,4 +38,4 @@ loop-rest-preserved c = λ rounds h ys d.
 pub returns : goal.returns
 returns c = λ rounds h ys d.
     let l = c.loop-rest in
-    sym (round_spent _ (l.invariant rounds h ys d) (no_query l.rest _ c.loop-rest-test.false))
+    sym (round_spent _ (l.invariant rounds h ys d) (no_query l.rest _ (omega (arith, c.loop-rest-test.false))))

@@ -3,7 +3,7 @@ use mathlib.Core.Path.{◌≡◌, sym, ◌∙◌, ap}
 use Prim.Native.Nat.{ℕ, ◌+◌, ◌≤◌, ◌<◌}
 use native.Mathlib.Numerals.{add-one}
 use native.Mathlib.Omega.{arith}
-use lib.ListN.{length, get_or, set, take, drop, length-set}
+use lib.ListN.{length, get_or, set, take, drop}
 use lib.Seq.{take-suc, length-take-le}
 use Rattle.model.specs.File.{is_old}
 use Rattle.model.specs.Says.{filled}
@@ -21,7 +21,6 @@ module _ {new old : List ℕ} {n : ℕ} (count : length new ≡ n) where
         entries =
             front_store (take i new) old l i v (length-take-le i new (omega arith)) (omega arith) begun.entries
             ∙ ap (λ (r : List ℕ). r ++ drop (i + 1) old) next;
-        long = simp length-set begun.long;
       }
 
   -- all are stored
@@ -30,22 +29,21 @@ module _ {new old : List ℕ} {n : ℕ} (count : length new ≡ n) where
 
 pub loop-i-preserved : goal.loop-i-preserved
 loop-i-preserved c =
-    let file = c.args.file.now in
-    let m = c.args.m in
-    let room = c.requires.lines_in_bounds in
+    let file = c.args.file.bytes.now in
+    let m = c.args.file.model in
+    let room = c.requires in
     let inside = c.loop-i-test.true in
-    let inv = c.loop-i.invariant in (
-      omega arith,
-      begun_more (every_length _ _ _) room.0 inside c.kind.ensures inv.1,
-      begun_more (thresholds_length (is_old m.lines m.levels file) _ _) room.1 inside c.threshold.ensures inv.2,
-    )
+    let inv = c.loop-i.invariant in record {
+      kinds = begun_more (every_length _ _ _) room.0 inside c.kind.ensures inv.kinds;
+      thresholds = begun_more (thresholds_length (is_old m.lines m.levels file) _ _) room.1 inside c.threshold.ensures inv.thresholds;
+    }
 
 pub returns : goal.returns
 returns c =
-    let file = c.args.file.now in
-    let m = c.args.m in
+    let file = c.args.file.bytes.now in
+    let m = c.args.file.model in
     let inv = c.loop-i.invariant in
     let all : c.loop-i.i ≡ m.lines = omega arith in record {
-      kinds = begun_all (every_length _ _ _) all inv.1;
-      thresholds = begun_all (thresholds_length (is_old m.lines m.levels file) _ _) all inv.2;
+      kinds = begun_all (every_length _ _ _) all inv.kinds;
+      thresholds = begun_all (thresholds_length (is_old m.lines m.levels file) _ _) all inv.thresholds;
     }

@@ -5,7 +5,7 @@ use Rattle.text.proofs.Digits.{hex_long, puts_then}
 use Rattle.report.proofs.put_found.Goals as goal
 
 pub put_number_line-requires : goal.put_number_line-requires
-put_number_line-requires c = omega (arith, hex_long c.args.set)
+put_number_line-requires c = omega (arith, hex_long c.args.found.set)
 
 pub returns : goal.returns
 returns c =

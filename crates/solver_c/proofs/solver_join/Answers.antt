@@ -7,6 +7,6 @@ use Rattle.solver_c.proofs.solver_join.Goals as goal
 pub returns : goal.returns
 returns c =
     let made = c.join.ensures in record {
-      answer_after = c.put_written.ensures ∙ ap six_words made.answer;
+      answer_after = c.written.ensures ∙ ap six_words made.answer;
       join_leaves = made.left;
     }

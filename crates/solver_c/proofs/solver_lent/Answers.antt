@@ -5,4 +5,4 @@ use Rattle.answer_c.specs.Words.{six_words}
 use Rattle.solver_c.proofs.solver_lent.Goals as goal
 
 pub returns : goal.returns
-returns c = c.put_judged.ensures ∙ ap six_words c.solve_lent.ensures.answer
+returns c = c.judged.ensures ∙ ap six_words c.solve_lent.ensures.answer

@@ -7,6 +7,6 @@ use Rattle.solver_c.proofs.solver_one_sided.Goals as goal
 pub returns : goal.returns
 returns c =
     let made = c.solve_one_sided.ensures in record {
-      answer_after = c.put_judged.ensures ∙ ap six_words made.answer;
+      answer_after = c.judged.ensures ∙ ap six_words made.answer;
       one_sided_leaves = made.left;
     }

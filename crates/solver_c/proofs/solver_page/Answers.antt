@@ -7,6 +7,6 @@ use Rattle.solver_c.proofs.solver_page.Goals as goal
 pub returns : goal.returns
 returns c =
     let made = c.make_page.ensures in record {
-      answer_after = c.put_paged.ensures ∙ ap six_words made.answer;
+      answer_after = c.paged.ensures ∙ ap six_words made.answer;
       page_leaves = made.left;
     }

@@ -5,4 +5,4 @@ use Rattle.answer_c.specs.Words.{six_words}
 use Rattle.solver_c.proofs.solver_query.Goals as goal
 
 pub returns : goal.returns
-returns c = c.put_queried.ensures ∙ ap six_words c.query.ensures
+returns c = c.queried.ensures ∙ ap six_words c.query.ensures

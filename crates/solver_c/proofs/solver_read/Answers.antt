@@ -7,6 +7,6 @@ use Rattle.solver_c.proofs.solver_read.Goals as goal
 pub returns : goal.returns
 returns c =
     let read = c.read.ensures in record {
-      answer_after = c.put_reading.ensures ∙ ap six_words read.answer;
+      answer_after = c.reading.ensures ∙ ap six_words read.answer;
       read_leaves = read.left;
     }

@@ -7,6 +7,6 @@ use Rattle.solver_c.proofs.solver_write.Goals as goal
 pub returns : goal.returns
 returns c =
     let wrote = c.write.ensures in record {
-      answer_after = c.put_written.ensures ∙ ap six_words wrote.answer;
+      answer_after = c.written.ensures ∙ ap six_words wrote.answer;
       write_leaves = wrote.left;
     }

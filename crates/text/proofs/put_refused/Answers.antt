@@ -25,8 +25,8 @@ returns-then-count-eq0 c =
 pub put_number_line-requires : goal.put_number_line-requires
 put_number_line-requires c = omega (arith, decimal_few c.args.number)
 
-pub returns : goal.returns
-returns c =
+pub returns-else-count-eq0 : goal.returns-else-count-eq0
+returns-else-count-eq0 c =
     puts_then (omega (arith, c.requires)) c.put-word.ensures
     (puts_then (omega (arith, c.put-word)) c.put_decimal-behind.ensures
     (rw (counted c.args.count (omega (arith, c.if-count-eq0.false))) at c.put_number_line.ensures))

@@ -1,13 +1,7 @@
 -- `one_sided_leaves::arguments::find_ends` meets its contract. The loop's invariant: the gaps from i on have theirs.
 -- Assumes nothing.
-use mathlib.Core.Path.{◌≡◌}
-use Prim.Native.Nat.{◌≤◌}
-use lib.ListN.{length}
 use Rattle.one_sided_leaves.specs.Leaves.{Ends}
 use Rattle.one_sided_leaves.proofs.arguments.find_ends.Given as goal
 
 abbrev pub invariant-loop-i : goal.invariant-loop-i
-invariant-loop-i l = (l.i ≤ length l.v) × (length l.over ≡ 1024) × Ends l.v l.over l.i
-
-abbrev pub decreases-loop-i : goal.decreases-loop-i
-decreases-loop-i l = l.i
+invariant-loop-i l = Ends l.v l.over l.i

@@ -7,13 +7,13 @@ use Rattle.fixpoint.specs.Levels.{least_among}
 use Rattle.fixpoint.proofs.Levels.{least_at_least, least_at_greatest}
 use mathlib.Core.Bool.{true, false, not}
 use Rattle.system.specs.System.{System, sign}
-use Rattle.model.specs.Held.{system_in}
+use Rattle.model.specs.Files.{held_system}
 use Rattle.routes.specs.Parts.{least_of}
 use Rattle.routes.proofs.shared.count_least.Goals as goal
 
 pub loop-k-init : goal.loop-k-init
 unfolding least_among
-loop-k-init c = (omega arith, omega arith, refl)
+loop-k-init c = (omega arith, refl)
 
 -- a level more, by its sign
 least_more : (s : System) (k : ℕ) → not (sign s k) ≡ true → least_of s (k + 1) ≡ least_of s k + 1
@@ -24,11 +24,11 @@ least_same s k e = ap (least_of s) (add-one k) ∙ least_at_greatest (sign s) k 
 
 pub loop-k-preserved : goal.loop-k-preserved
 loop-k-preserved c =
-    let s = system_in c.args.file.now c.args.m in
+    let s = held_system c.args.file in
     let told = c.is_greatest.ensures in
     grind (arith, least_more s c.loop-k.k, least_same s c.loop-k.k)
 
 pub returns : goal.returns
 returns c =
-    let all : c.loop-k.k ≡ c.args.m.levels = omega arith in
-    c.loop-k.invariant.2 ∙ ap (least_of (system_in c.args.file.now c.args.m)) all
+    let all : c.loop-k.k ≡ c.args.file.model.levels = omega arith in
+    c.loop-k.invariant.1 ∙ ap (least_of (held_system c.args.file)) all

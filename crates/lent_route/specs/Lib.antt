@@ -1,0 +1,2 @@
+pub mod LentProp
+pub mod Child
