@@ -2,15 +2,15 @@
 -- Assumes nothing.
 use mathlib.Core.Bool.{Bool, true, false, cond}
 use mathlib.Core.List.{List, [], ◌∷◌, ◌++◌}
-use mathlib.Core.Path.{◌≡◌, refl, sym}
+use mathlib.Core.Path.{◌≡◌, refl, sym, ap}
 use Prim.Native.Nat.{ℕ, zero, suc, ◌+◌, ◌≤◌, ◌<◌, ◌^◌}
 use native.Mathlib.Numerals.{add-one}
 use native.Mathlib.Omega.{arith}
 use lib.ListN.{get_or, take, drop, take-append-drop, replicate}
 use lib.Seq.{take-suc, take_all}
-use Rattle.trees.specs.Tree.{children}
+use Rattle.trees.specs.Tree.{children, leaves}
 use Rattle.trees.specs.Built.{built, built_children}
-use Rattle.trees.proofs.Built.{built_children_length, built_children_leaves, children_built}
+use Rattle.trees.proofs.Built.{built_children_length, built_children_leaves, children_built, child_leaves}
 use Rattle.fixpoint.specs.Levels.{least_among, greatest_among}
 use Rattle.system.specs.System.{System, sign}
 use Rattle.evaluator.specs.Sides.{moved}
@@ -19,7 +19,7 @@ use Rattle.routes.specs.declared.shared.Found.{Found}
 use Rattle.routes.specs.Parts.{LineCount, least_of, greatest_of, level_queries}
 use Rattle.routes.proofs.OverChildren.{then}
 use Rattle.routes.proofs.ChildrenPassed.{child_passed, passed_few}
-use Rattle.routes.proofs.Levels.{LevelGives, OverGives, own_of, heights, queries_over, level_over}
+use Rattle.routes.proofs.Levels.{LevelGives, OverGives, falling_number, own_of, heights, queries_over, level_over}
 use Rattle.routes.proofs.QueryBound.{built_few}
 
 -- the children of S(n, h + 1), one by one
@@ -104,3 +104,22 @@ module _ (s : System) (k p q : ℕ) (few : k < 8) (y : LineCount p) (z : LineCou
   first_few greatest e i =
       let all = all_children greatest s k p q in
       omega (arith, all_few greatest e, passed_few s k (built p (least_of s k)) (built q (greatest_of s k)) greatest (take i all) (drop i all) (sym (take-append-drop i all)))
+
+-- The levels left and the leaves of the two trees (falling_number in routes), for the levels k, .., 1 and for a least and a greatest level above them.
+module _ (s : System) (k p q : ℕ) where
+  abbrev pub level_number : ℕ
+  level_number = falling_number k (built p (least_of s k)) (built q (greatest_of s k))
+
+  abbrev pub least_number : ℕ
+  least_number = falling_number k (built p (suc (least_of s k))) (built q (greatest_of s k)) + 1
+
+  abbrev pub greatest_number : ℕ
+  greatest_number = falling_number k (built p (least_of s k)) (built q (suc (greatest_of s k))) + 1
+
+-- a child's is less than that of the children's level
+module _ (s : System) (k p q i n : ℕ) where
+  pub least_number_lem : i < p → get_or (built_children p (least_of s k)) i [] ≡ built n (least_of s k) → level_number s k n q < least_number s k p q
+  least_number_lem l e = omega (arith, ap leaves e, child_leaves p (least_of s k) i l)
+
+  pub greatest_number_lem : i < q → get_or (built_children q (greatest_of s k)) i [] ≡ built n (greatest_of s k) → level_number s k p n < greatest_number s k p q
+  greatest_number_lem l e = omega (arith, ap leaves e, child_leaves q (greatest_of s k) i l)

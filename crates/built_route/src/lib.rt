@@ -1,7 +1,7 @@
 // The route over built-in trees. No tree is stored: a child of S(n, h + 1) is S(m, h), and m is found by its place among the children.
 #![tactic(auto)]
 
-ghost use Rattle.std.specs.Prelude.{◌≡◌, List, [], ℕ, ◌<◌, ◌≤◌, get_or};
+ghost use Rattle.std.specs.Prelude.{◌≡◌, List, [], ℕ, suc, ◌<◌, ◌≤◌, get_or};
 ghost use Rattle.trees.specs.Built.{built, built_children};
 ghost use Rattle.model.specs.Files.{held_system};
 ghost use Rattle.evaluator.specs.ByLevels.{Carried, SomeCarry};
@@ -34,8 +34,9 @@ fn child_lines(n: usize, i: usize) -> usize
     }
 }
 
-// The restricted set of the levels k, .., 1 over S(p, h) and S(q, g), h and g being the least and the greatest of these levels. Level k goes over the children
-// of the tree of its sign: each moves its bound, and with it the value.
+// The restricted set of the levels k, .., 1 over S(p, h) and S(q, g), h and g being the least and the greatest of these levels.
+#[cycle(built_level)]
+#[inline(always)]
 pub fn built_level(
     file: HeldFile,
     k: usize,
@@ -54,11 +55,37 @@ pub fn built_level(
         (ys : List ℕ) → Carried s k ys bounds.low bounds.high w.pending w.needs.now → Gives result (restricted_from s k ys bounds.low bounds.high u v) (queries_from s k u v) }
 {
     let below = k - 1;
-    let greatest = file.is_greatest(below);
-    let lines = if greatest { q } else { p };
     if below == 0 {
+        let greatest = file.is_greatest(below);
+        let lines = if greatest { q } else { p };
         return innermost_level(file, bounds, carry, greatest, lines);
     }
+    outer_level(file, below, bounds, carry, p, q)
+}
+
+// The same of a level with `below` levels below it. It goes over the children of the tree of its sign: each moves its bound, and with it the value. It is a
+// function of its own, so that an innermost level is compiled into the loop that goes over it, and is no call.
+#[cycle(built_level)]
+fn outer_level(
+    file: HeldFile,
+    below: usize,
+    bounds: Bounds,
+    carry: Carry,
+    p: usize,
+    q: usize,
+) -> Found
+    requires carried { SomeCarry (held_system file) (suc below) bounds.low bounds.high carry.pending carry.needs.now }
+    requires below_nonzero { (0 < below) × (below < file.model.levels) }
+    requires line_count { LineCount p × LineCount q }
+    ensures { let s = held_system file.entry in
+        let w = carry.entry in
+        let u = built p (least_of s (suc below)) in
+        let v = built q (greatest_of s (suc below)) in
+        (ys : List ℕ) → Carried s (suc below) ys bounds.low bounds.high w.pending w.needs.now
+        → Gives result (restricted_from s (suc below) ys bounds.low bounds.high u v) (queries_from s (suc below) u v) }
+{
+    let greatest = file.is_greatest(below);
+    let lines = if greatest { q } else { p };
     let mut set = bounds.start(greatest);
     let mut count: u64 = 0;
     for i in 0..lines {

@@ -108,7 +108,7 @@ module _ (s : System) (votes : VotesNeed s) (k x a b : ℕ) (w : Pending) (needs
       go false true v h f q e = absurd (true≢false q)
       go false false v h f q e = absurd (true≢false (sym e))
 
-  lowered_few : lowered < 2 ^ s.lines
+  pub lowered_few : lowered < 2 ^ s.lines
   lowered_few =
       within_few s.lines lowered w.undecided
       (λ i e. asked_inside i (first (is_member asked i) _ (sym (unset_is i) ∙ first (is_member (unset_of a b w) i) _ (sym (lowered_is i) ∙ e)))) few
@@ -149,14 +149,14 @@ module _ (s : System) (votes : VotesNeed s) (k x a b : ℕ) (w : Pending) (needs
         go false v z l true d eo ev ez ed ec el op cl = absurd (true≢false ec)
         go false v z l false d eo ev ez ed ec el op cl = absurd (true≢false (sym op))
 
-  decided_next : (ys : List ℕ) → Carried s (suc k) ys a b w needs → Decided s k (x ∷ ys) a b after
+  pub decided_next : (ys : List ℕ) → Carried s (suc k) ys a b w needs → Decided s k (x ∷ ys) a b after
   decided_next ys carried = record {
     value = λ i p q. member_differ w.set changes i ∙ sym (line_next ys carried i p q).0;
     still = λ i p q. member_differ asked changes i ∙ sym (line_next ys carried i p q).1;
     lines = within_few s.lines (bit_xor asked changes) w.undecided after_inside few;
   }
 
-  needs_next : (ys : List ℕ) → Carried s (suc k) ys a b w needs → (row : List ℕ) → Lowered s k x lowered needs row → Needs s k (x ∷ ys) a b row
+  pub needs_next : (ys : List ℕ) → Carried s (suc k) ys a b w needs → (row : List ℕ) → Lowered s k x lowered needs row → Needs s k (x ∷ ys) a b row
   needs_next ys carried row low i p q o v = line_needs_lem ys carried i p q o v row low
 
   -- so what is decided is right, whatever arguments stand for what was carried, and only lines of the system need less

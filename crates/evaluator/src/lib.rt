@@ -53,16 +53,19 @@ struct Hits {
 }
 
 // The set of the lines that are set without operands: those of which all operands must be set. The last line is the highest digit. The place of the kind is
-// carried on, not made from the line anew: the layout is asked once. The byte is asked, 1 being all: a test of its `Kind` has a longer proof and says no more.
+// carried on, not made from the line anew: the layout is asked once. The byte is asked, 1 being all: a test of its `Kind` was tried, and two goals of
+// its proof stayed open.
 fn initial_set(file: HeldFile) -> u64
     ensures { result ≡ initial_set (held_system file.entry) }
 {
     let m = file.model;
     let first = m.kinds_at();
     let step = line_bytes(file.bytes, m);
+    let mut at = first + step * m.lines;
     let mut set: u64 = 0;
     for i in (0..m.lines).rev() {
-        set = 2 * set + (file.bytes[first + step * i] == 1) as u64;
+        at -= step;
+        set = 2 * set + (file.bytes[at] == 1) as u64;
     }
     set
 }
@@ -76,6 +79,7 @@ fn level_words(file: HeldFile, k: usize) -> usize
 }
 
 // Those of some lines that select, at level k + 1, a line of x. They are gone over from the lowest on.
+#[inline(always)]
 fn selecting(file: HeldFile, k: usize, lines: u64, x: u64) -> u64
     requires { (k < file.model.levels) × (lines < 2 ^ file.model.lines) }
     ensures { (i : ℕ) → is_member result i ≡ (is_member lines i && selects (held_system file.entry) k x i) }
@@ -98,6 +102,7 @@ fn selecting(file: HeldFile, k: usize, lines: u64, x: u64) -> u64
 
 // Of some lines that are not set, those whose operands at level k + 1 in x are all that they need, and those for which they are a part of it. For most lines one
 // is enough, so that few are counted.
+#[inline(always)]
 fn meeting(file: HeldFile, k: usize, lines: u64, x: u64, needs: &[u8; 64]) -> Hits
     requires { (k < file.model.levels) × (lines < 2 ^ file.model.lines) }
     ensures met { (i : ℕ) → is_member result.met i ≡ (is_member lines i && is_met (held_system file.entry) k x needs.now i) }
@@ -164,6 +169,7 @@ pub fn initial_needs(file: HeldFile) -> [u8; 64]
 
 // What the argument x of level k + 1 decides beside those above it, of the lines that a step between the bounds can change: an undecided line
 // that is not set changes by as many operands that are set as it needs, and one that is set by an operand that is not.
+#[inline(always)]
 pub fn decide(file: HeldFile, k: usize, x: u64, bounds: Bounds, carry: Carry) -> Decision
     requires { (k < file.model.levels) × (carry.pending.undecided < 2 ^ file.model.lines) }
     ensures few { result.lowered < 2 ^ file.entry.model.lines }
@@ -204,6 +210,7 @@ pub fn lower_needs(file: HeldFile, k: usize, x: u64, lines: u64, needs: &[u8; 64
 }
 
 // The bounded step towards the query's set at the argument x of level 1: with it, every argument is known.
+#[inline(always)]
 pub fn settle(file: HeldFile, x: u64, bounds: Bounds, carry: Carry) -> u64
     requires { (0 < file.model.levels) × (carry.pending.undecided < 2 ^ file.model.lines) }
     ensures { let s = held_system file.entry in

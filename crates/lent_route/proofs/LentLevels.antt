@@ -4,7 +4,7 @@
 use mathlib.Core.Bool.{Bool, true, false, cond}
 use mathlib.Core.List.{List, [], ◌∷◌, ◌++◌, append-nil}
 use mathlib.Core.Path.{◌≡◌, refl, sym, ◌∙◌, ap}
-use Prim.Native.Nat.{ℕ, suc, ◌+◌, ◌≤◌, ◌<◌, ◌^◌}
+use Prim.Native.Nat.{ℕ, suc, ◌+◌, ◌-◌, ◌≤◌, ◌<◌, ◌^◌}
 use native.Mathlib.Decide.{dec_lt}
 use native.Mathlib.Omega.{arith}
 use lib.ListN.{length, take, drop, length-drop, replicate}
@@ -23,7 +23,7 @@ use Rattle.routes.proofs.Levels.{LevelGives, OverGives, own, own_of, heights, qu
 use Rattle.routes.proofs.QueryBound.{lent_few}
 use Rattle.lent_route.specs.declared.LentTree.{LentTree}
 use Rattle.lent_route.specs.Child.{FirstChild}
-use Rattle.lent_route.proofs.FirstChild.{rest_lent, cut_none, cut_first}
+use Rattle.lent_route.proofs.FirstChild.{rest_lent, front_lent, cut_none, cut_first}
 
 -- the children of a tree that are passed, in front of those of what is left of its gaps
 abbrev pub Split : ℕ → List ℕ → ℕ → List (List ℕ) → Type 0
@@ -31,6 +31,9 @@ Split h u from passed = children h u ≡ passed ++ children h (drop from u)
 
 pub record NextChild (h : ℕ) (u : List ℕ) (from : ℕ) (child : List ℕ) (passed : List (List ℕ)) : Type 0 where
   pub within : from + length child ≤ length u
+  pub lent : Lent (h - 1) child
+  -- it has no more leaves than the tree
+  pub leaves_few : leaves child ≤ leaves u
   -- the last child, or one in front of others
   pub last : from + length child ≡ length u → children h u ≡ passed ++ child ∷ []
   pub more : (from + length child ≡ length u → ⊥) → Split h u (from + length child + 1) (passed ++ child ∷ [])
@@ -56,6 +59,8 @@ next_child {h} u from child passed suc-h tree inside split first =
     elim (dec_lt (from + cut) (length u)) [ yes l ↦ (_, ahead (λ e. omega arith)) | no g ↦ (_, alone (omega arith)) ] in
     record {
       within = fits;
+      lent = rw (← first.cut) at (front_lent rest cut suc-h lent first.before);
+      leaves_few = omega arith;
       last = λ e. alone e ∙ append-nil (passed ++ child ∷ []);
       more = λ n. rw (drop-drop (cut + 1) from u, place) at (ahead n);
       others = front.0;

@@ -1,7 +1,7 @@
 // The route over lent trees, whose gaps stand in two slices.
 #![tactic(auto)]
 
-ghost use Rattle.std.specs.Prelude.{◌≡◌, ℕ, ◌-◌, ◌<◌, ◌≤◌, List, length, get_or, drop};
+ghost use Rattle.std.specs.Prelude.{◌≡◌, ℕ, suc, ◌-◌, ◌<◌, ◌≤◌, List, length, get_or, drop};
 ghost use Rattle.model.specs.Files.{held_system};
 ghost use Rattle.evaluator.specs.ByLevels.{Carried, SomeCarry};
 ghost use Rattle.lent_route.specs.Child.{NoneBefore, FirstChild};
@@ -52,6 +52,8 @@ impl<'a> LentTree<'a> {
 
 // The restricted set of the levels k, .., 1 over the trees u and v, whose heights are the least and the greatest of these levels. Level k goes over the children
 // of the tree of its sign: each moves its bound, and with it the value.
+#[cycle(levels)]
+#[inline(always)]
 pub fn lent_level<'a>(
     file: HeldFile,
     k: usize,
@@ -70,11 +72,36 @@ pub fn lent_level<'a>(
         (ys : List ℕ) → Carried s k ys bounds.low bounds.high w.pending w.needs.now → Gives result (restricted_from s k ys bounds.low bounds.high ut vt) (queries_from s k ut vt) }
 {
     let below = k - 1;
-    let greatest = file.is_greatest(below);
-    let own = if greatest { v } else { u };
     if below == 0 {
+        let greatest = file.is_greatest(below);
+        let own = if greatest { v } else { u };
         return innermost_level(file, bounds, carry, greatest, own.gaps.len() + 1);
     }
+    outer_level(file, below, bounds, carry, u, v)
+}
+
+// Level below + 1, which has levels below it. A function of its own, so that an innermost level is compiled into the loop that goes over it and is no call.
+#[cycle(levels)]
+fn outer_level<'a>(
+    file: HeldFile,
+    below: usize,
+    bounds: Bounds,
+    carry: Carry,
+    u: LentTree<'a>,
+    v: LentTree<'a>,
+) -> Found
+    requires carried { SomeCarry (held_system file) (suc below) bounds.low bounds.high carry.pending carry.needs.now }
+    requires below_nonzero { (0 < below) × (below < file.model.levels) }
+    requires heights { (u.height ≡ least_of (held_system file) (suc below)) × (v.height ≡ greatest_of (held_system file) (suc below)) }
+    ensures { let s = held_system file.entry in
+        let w = carry.entry in
+        let k = suc below in
+        let ut = u.entry.gaps.now in
+        let vt = v.entry.gaps.now in
+        (ys : List ℕ) → Carried s k ys bounds.low bounds.high w.pending w.needs.now → Gives result (restricted_from s k ys bounds.low bounds.high ut vt) (queries_from s k ut vt) }
+{
+    let greatest = file.is_greatest(below);
+    let own = if greatest { v } else { u };
     let mut set = bounds.start(greatest);
     let mut count: u64 = 0;
     let mut from = 0;

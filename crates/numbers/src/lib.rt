@@ -9,7 +9,9 @@ fn bytes_at<const N: usize>(s: &[u8], at: usize) -> [u8; N]
     requires { at + N ≤ length s.now }
     ensures { result ≡ take N (drop at s.now) }
 {
-    *s[at..].first_chunk().unwrap()
+    let mut bytes = [0u8; N];
+    bytes.copy_from_slice(&s[at..at + N]);
+    bytes
 }
 
 pub fn u16_at(s: &[u8], at: usize) -> u16

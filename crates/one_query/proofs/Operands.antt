@@ -2,16 +2,16 @@
 -- Assumes nothing.
 use mathlib.Core.Bool.{Bool, not, ◌&&◌, ◌||◌}
 use mathlib.Core.List.{List, [], ◌++◌}
-use mathlib.Core.Path.{◌≡◌, ◌∙◌, ap}
-use Prim.Native.Nat.{ℕ, suc, ◌+◌, ◌-◌, ◌*◌, ◌^◌, ◌≤◌, ◌<◌}
+use mathlib.Core.Path.{◌≡◌, refl, ◌∙◌, ap}
+use Prim.Native.Nat.{ℕ, zero, suc, ◌+◌, ◌-◌, ◌*◌, ◌^◌, ◌≤◌, ◌<◌}
 use native.Mathlib.Nat.{sub-zero}
 use native.Mathlib.Numerals.{add-one}
 use native.Mathlib.Omega.{arith}
-use lib.Dec.{eqb}
+use lib.Dec.{eqb, leb}
 use lib.ListN.{length, get_or, drop}
 use lib.Seq.{drop-drop, drop-cons}
 use Rattle.sets.specs.Set.{intersection, is_within, members}
-use Rattle.system.specs.Query.{any, all, count_set, selected, operands}
+use Rattle.system.specs.Query.{any, all, count_set, value_of, selected, operands}
 use Rattle.numbers.specs.Numbers.{number_at, words_from}
 use Rattle.system.proofs.Masks.{any_append, all_append, count_append, any_selected, all_selected, count_selected}
 
@@ -31,7 +31,7 @@ module _ (words xs : List ℕ) where
   unfolding from words_from operands
   from_end k h = let none : length xs - k ≡ 0 = omega arith in rw none
 
-  from_step : (k : ℕ) → k < length xs → from k ≡ selected 64 (number_at words (8 * k) 8) (get_or xs k 0) ++ from (k + 1)
+  pub from_step : (k : ℕ) → k < length xs → from k ≡ selected 64 (number_at words (8 * k) 8) (get_or xs k 0) ++ from (k + 1)
   unfolding from words_from operands
   from_step k l =
       let more : length xs - k ≡ suc (length xs - (k + 1)) = omega arith in
@@ -53,3 +53,15 @@ module _ (words xs : List ℕ) where
     count_step =
         ap count_set (from_step k l) ∙ count_append (selected 64 (number_at words (8 * k) 8) (get_or xs k 0)) (from (k + 1))
         ∙ rw (← e, count_selected w (get_or xs k 0) lw lx)
+
+-- a line's value by its kind
+pub value_any : (kind t : ℕ) (bits : List Bool) → kind ≡ 0 → value_of kind t bits ≡ any bits
+value_any kind t bits e = rw e
+
+pub value_all : (kind t : ℕ) (bits : List Bool) → kind ≡ 1 → value_of kind t bits ≡ all bits
+value_all kind t bits e = rw e
+
+pub value_vote : (kind t : ℕ) (bits : List Bool) → (kind ≡ 0 → ⊥) → (kind ≡ 1 → ⊥) → value_of kind t bits ≡ leb t (count_set bits)
+value_vote zero t bits n m = absurd (n refl)
+value_vote (suc zero) t bits n m = absurd (m refl)
+value_vote (suc (suc k)) t bits n m = refl

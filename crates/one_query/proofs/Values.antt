@@ -29,14 +29,18 @@ pub parts_fit : (file xs : List ℕ) (d at : ℕ) → d ≤ length xs → at + 8
 parts_fit file xs d at h room = rw (take_rest file at) (omega (arith, length-take-le d xs h, length-drop at file))
 
 -- it is that of the kind, the threshold and the words at the line's places
-pub value_at_lem : (file : List ℕ) (m : Model) (xs : List ℕ) (i k t at : ℕ) → i < m.lines → m.levels ≤ length xs
+pub value_at_lem : (file : List ℕ) (m : Model) (xs : List ℕ) (i k t at : ℕ) → i < m.lines → k ≡ get_or (system_in file m).kinds i 0 → t ≡ get_or (system_in file m).thresholds i 0
+    → at ≡ words_in file + 8 * (i * m.levels) → value_of k t (operands (words_from m.levels (drop at file)) (take m.levels xs)) ≡ value_at file m xs i
+value_at_lem file m xs i k t at inside ek et ea =
+    ap₂ (λ (k t : ℕ). value_of k t (operands (words_from m.levels (drop at file)) (take m.levels xs))) ek et
+    ∙ ap (λ (ws : List ℕ). line_value (system_in file m) i (operands ws (take m.levels xs)))
+    (ap (λ (at : ℕ). words_from m.levels (drop at file)) ea ∙ sym (words_of_lem m.lines m.levels file i inside))
+
+-- and so with those words as a part of the file, one for each of the arguments
+pub value_at_words : (file : List ℕ) (m : Model) (xs : List ℕ) (i k t at : ℕ) → i < m.lines → m.levels ≤ length xs
     → k ≡ get_or (system_in file m).kinds i 0 → t ≡ get_or (system_in file m).thresholds i 0 → at ≡ words_in file + 8 * (i * m.levels)
     → value_of k t (operands (words_from (length (take m.levels xs)) (take (length file - at) (drop at file))) (take m.levels xs)) ≡ value_at file m xs i
-value_at_lem file m xs i k t at inside enough ek et ea =
-    rw (take_rest file at, length-take-le m.levels xs enough)
-    (ap₂ (λ (k t : ℕ). value_of k t (operands (words_from m.levels (drop at file)) (take m.levels xs))) ek et
-    ∙ ap (λ (ws : List ℕ). line_value (system_in file m) i (operands ws (take m.levels xs)))
-    (ap (λ (at : ℕ). words_from m.levels (drop at file)) ea ∙ sym (words_of_lem m.lines m.levels file i inside)))
+value_at_words file m xs i k t at inside enough ek et ea = rw (take_rest file at, length-take-le m.levels xs enough) (value_at_lem file m xs i k t at inside ek et ea)
 
 -- those of some of n lines of which p holds
 pub found_lines : (n lines found : ℕ) (p : ℕ → Bool) → lines < 2 ^ n → ((i : ℕ) → is_member found i ≡ (is_member lines i && p i)) → found ≡ intersection lines (set_of n p)

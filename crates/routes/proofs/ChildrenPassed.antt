@@ -2,7 +2,7 @@
 -- Assumes nothing.
 use mathlib.Core.Bool.{Bool, true, false, cond}
 use mathlib.Core.List.{List, [], ◌∷◌, ◌++◌}
-use mathlib.Core.Path.{◌≡◌}
+use mathlib.Core.Path.{◌≡◌, refl}
 use Prim.Native.Nat.{ℕ, suc, ◌≤◌}
 use native.Mathlib.Omega.{arith}
 use Rattle.fixpoint.proofs.Restricted.{fall_is_rise}
@@ -16,7 +16,7 @@ use Rattle.routes.specs.declared.shared.Found.{Found}
 use Rattle.routes.specs.Parts.{queries_from, level_queries}
 use Rattle.routes.proofs.OverChildren.{then, rises_none, rises_child, sum_append}
 use Rattle.routes.proofs.Inside.{carried_low, carried_high}
-use Rattle.routes.proofs.Levels.{LevelGives, OverGives, over_inside}
+use Rattle.routes.proofs.Levels.{LevelGives, OverGives, LeastGives, GreatestGives, over_inside}
 
 module _ (s : System) (k : ℕ) (ys : List ℕ) (bounds : Bounds) (u v : List ℕ) where
   pub none_passed : (greatest : Bool) → OverGives s k ys bounds u v greatest [] (record { set = start_of greatest bounds; count = 0 })
@@ -47,6 +47,18 @@ pub next_carried : {s : System} {k : ℕ} {bounds between : Bounds} {w : Pending
 next_carried {s} {k} {bounds} {between} {needs = needs} {r} row greatest ts u v e gives decided lower ys c =
     let next = decided ys (rw e (carried_moved s k ys bounds u v needs greatest ts r (gives ys c) c)) in
     (next.decided, next.still_needs_lem row lower)
+
+-- so for a least and for a greatest level, between two bounds
+module _ {s : System} {k a b : ℕ} {w : Pending} {needs : List ℕ} {r : Found} {d : Decision} (row : List ℕ) where
+  pub least_next : (us : List (List ℕ)) (v : List ℕ) → ((ys : List ℕ) → Carried s (suc k) ys a b w needs → LeastGives s k ys a b us v r)
+      → ((ys : List ℕ) → Carried s (suc k) ys r.set b w needs → Next s k r.set ys r.set b needs d)
+      → Lowered s k r.set d.lowered needs row → (ys : List ℕ) → Carried s (suc k) ys a b w needs → Carried s k (r.set ∷ ys) r.set b d.pending row
+  least_next us v = next_carried {bounds = record { low = a; high = b }} {between = record { low = r.set; high = b }} row false us [] v refl
+
+  pub greatest_next : (u : List ℕ) (vs : List (List ℕ)) → ((ys : List ℕ) → Carried s (suc k) ys a b w needs → GreatestGives s k ys a b u vs r)
+      → ((ys : List ℕ) → Carried s (suc k) ys a r.set w needs → Next s k r.set ys a r.set needs d)
+      → Lowered s k r.set d.lowered needs row → (ys : List ℕ) → Carried s (suc k) ys a b w needs → Carried s k (r.set ∷ ys) a r.set d.pending row
+  greatest_next u vs = next_carried {bounds = record { low = a; high = b }} {between = record { low = a; high = r.set }} row true vs u [] refl
 
 -- the queries of the children passed are among those of all
 pub passed_few : (s : System) (k : ℕ) (u v : List ℕ) (greatest : Bool) {all : List (List ℕ)} (passed others : List (List ℕ)) → all ≡ passed ++ others

@@ -1,19 +1,19 @@
 -- What a level is, by its sign: the restricted set of one level more is the level over the children of its tree.
 -- Assumes nothing.
 use mathlib.Core.Bool.{Bool, true, false, cond}
-use mathlib.Core.List.{List, ◌∷◌}
+use mathlib.Core.List.{List, [], ◌∷◌}
 use mathlib.Core.Path.{◌≡◌, refl}
-use Prim.Native.Nat.{ℕ, suc, ◌-◌, ◌<◌}
+use Prim.Native.Nat.{ℕ, suc, ◌+◌, ◌-◌, ◌*◌, ◌<◌}
 use native.Mathlib.Omega.{arith}
 use Rattle.sets.specs.Set.{bounded_step}
-use Rattle.trees.specs.Tree.{children}
+use Rattle.trees.specs.Tree.{children, leaves}
 use Rattle.fixpoint.specs.Restricted.{restricted, level, restricted_queries, level_queries as queries_by_sign}
 use Rattle.fixpoint.proofs.Levels.{least_at_least, least_at_greatest, greatest_at_least, greatest_at_greatest}
 use Rattle.system.specs.System.{System, sign}
 use Rattle.system.specs.Query.{query}
 use Rattle.evaluator.specs.declared.Bounds.{Bounds}
 use Rattle.routes.specs.declared.shared.Found.{Found}
-use Rattle.routes.specs.Parts.{Gives, least_of, greatest_of, restricted_from, queries_from, level_from, level_queries}
+use Rattle.routes.specs.Parts.{Gives, least_of, greatest_of, restricted_from, queries_from, rise_from, rise_queries, fall_from, fall_queries, level_from, level_queries}
 use Rattle.routes.proofs.Inside.{Inside, restricted_inside, rise_inside, fall_inside}
 
 -- what the levels k, .., 1 give over two trees, and what level k + 1 gives over the children ts of its tree; ys are the arguments of the levels above
@@ -28,6 +28,25 @@ module _ (s : System) (k : ℕ) (ys : List ℕ) (bounds : Bounds) (u v : List �
   pub over_inside : (greatest : Bool) (ts : List (List ℕ)) (r : Found) → OverGives greatest ts r → Inside bounds.low bounds.high r.set
   over_inside true ts r g = rw g.value (fall_inside _ (λ c. restricted_inside s.lines (sign s) (query s) k (c ∷ ys)) bounds.low u bounds.high ts)
   over_inside false ts r g = rw g.value (rise_inside _ (λ c. restricted_inside s.lines (sign s) (query s) k (c ∷ ys)) bounds.high v bounds.low ts)
+
+-- what a least level gives over the children us of its tree, and a greatest level over the children vs of its own, between two bounds
+module _ (s : System) (k : ℕ) (ys : List ℕ) (a b : ℕ) where
+  abbrev pub LeastGives : List (List ℕ) → List ℕ → Found → Type 0
+  LeastGives us v r = Gives r (rise_from s k ys a b us v) (rise_queries s k us v)
+
+  abbrev pub GreatestGives : List ℕ → List (List ℕ) → Found → Type 0
+  GreatestGives u vs r = Gives r (fall_from s k ys a b u vs) (fall_queries s k u vs)
+
+  -- it lies between the bounds' intersection and their union
+  pub least_inside : (us : List (List ℕ)) (v : List ℕ) (r : Found) → LeastGives us v r → Inside a b r.set
+  least_inside us v r g = over_inside s k ys (record { low = a; high = b }) [] v false us r g
+
+  pub greatest_inside : (u : List ℕ) (vs : List (List ℕ)) (r : Found) → GreatestGives u vs r → Inside a b r.set
+  greatest_inside u vs r g = over_inside s k ys (record { low = a; high = b }) u [] true vs r g
+
+-- The levels left and the leaves of the two trees together: twice the levels, since a level stands between two calls.
+abbrev pub falling_number : ℕ → List ℕ → List ℕ → ℕ
+falling_number k u v = 2 * k + (leaves u + leaves v)
 
 -- with no level left, the query is made
 pub no_level : (s : System) (xs : List ℕ) (bounds : Bounds) (u v : List ℕ) (y : ℕ) → y ≡ bounded_step bounds.low bounds.high (query s xs)

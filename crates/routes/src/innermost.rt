@@ -9,13 +9,8 @@ use evaluator::{Bounds, Carry, settle};
 use model::HeldFile;
 
 // An innermost level of a sign over so many leaves, whatever the tree of the levels of the other sign.
-pub fn innermost_level(
-    file: HeldFile,
-    bounds: Bounds,
-    carry: Carry,
-    greatest: bool,
-    leaves: usize,
-) -> Found
+#[inline(always)]
+fn over_leaves(file: HeldFile, bounds: Bounds, carry: Carry, greatest: bool, leaves: usize) -> Found
     requires { (0 < file.model.levels) × (carry.pending.undecided < 2 ^ file.model.lines) }
     ensures { let s = held_system file.entry in
         let w = carry.entry in
@@ -30,5 +25,28 @@ pub fn innermost_level(
     Found {
         set,
         count: leaves as u64,
+    }
+}
+
+// The same. It is compiled once for each sign, so that no leaf asks for it.
+#[inline(always)]
+pub fn innermost_level(
+    file: HeldFile,
+    bounds: Bounds,
+    carry: Carry,
+    greatest: bool,
+    leaves: usize,
+) -> Found
+    requires { (0 < file.model.levels) × (carry.pending.undecided < 2 ^ file.model.lines) }
+    ensures { let s = held_system file.entry in
+        let w = carry.entry in
+        let ts = replicate leaves [] in
+        (u v ys : List ℕ) → Carried s 1 ys bounds.low bounds.high w.pending w.needs.now
+        → Gives result (level_from greatest s 0 ys bounds ts u v) (level_queries greatest s 0 ts u v) }
+{
+    if greatest {
+        over_leaves(file, bounds, carry, true, leaves)
+    } else {
+        over_leaves(file, bounds, carry, false, leaves)
     }
 }

@@ -21,6 +21,7 @@ use Rattle.model.specs.Files.{laid_system, held_system}
 use Rattle.model.specs.Held.{system_in}
 use Rattle.model.specs.declared.held.HeldFile.{HeldFile}
 use Rattle.model.specs.declared.held.LaidFile.{LaidFile}
+use Rattle.checker.specs.Checks.{check_answer}
 use Rattle.checker.proofs.Accepted.{accepted}
 use Rattle.model.specs.declared.layout.Model.{Model}
 use Rattle.model.proofs.Refusals.{RefusedAs, refused_before, refused_answer, refused_under}
@@ -30,6 +31,7 @@ use Rattle.routes.specs.declared.shared.Found.{Found}
 use Rattle.routes.proofs.Promises.{plain_is_nested, built_product, built_nested, lent_product, lent_nested}
 use Rattle.plain_route.proofs.Rounds.{Fits, settled, settled_fits, spent_exceeds}
 use Rattle.view.specs.View.{BuiltIs, LentIs}
+use Rattle.view.proofs.InUse.{used}
 use Rattle.admission.specs.Checks.{bad_tree, bound_checks, bound_number, forecast}
 use Rattle.solver.specs.Checks.{forecast_checks, built_number, plain_number, tree_checks, lent_number}
 use Rattle.solver.specs.Says.{judged, unjudged_answer, PlainSays, BuiltSays, LentSays}
@@ -43,10 +45,10 @@ pub unjudged_positive : (e : Unjudged) → 0 < (unjudged_answer e).number
 unjudged_positive (OverCeiling forecast) = lit< tt
 unjudged_positive (Refused e) = number_positive e
 
--- the system of the file that is admitted is the one that the file stands for, and it has a line and a level
+-- a file that is admitted is a model in use: its system is the one that the file stands for; and it has a line and a level
 module _ {file : List ℕ} {a b : ℕ} where
   pub own : (f : HeldFile) → f.bytes.now ≡ file → Admitted file a b f.model → held_system f ≡ decode file
-  own f same known = ap (λ (bytes : List ℕ). system_in bytes f.model) same ∙ known.system
+  own f same known = (used f (ap check_answer same ∙ known.in_use)).system ∙ ap decode same
 
   pub some_line : {m : Model} → Admitted file a b m → 0 < m.lines
   some_line known = omega (arith, known.counts.lines, (accepted file (file_passed file a b known.number)).header.lines_least)

@@ -7,7 +7,7 @@ use lib.ListN.{length}
 use Rattle.system.specs.Query.{query}
 use Rattle.model.proofs.Sizes.{line_fits}
 use Rattle.sets.proofs.PassedLines.{LowestLine, lowest_line, found_all, found_more, found_same}
-use Rattle.one_query.proofs.Values.{value_at, parts_fit, value_at_lem, found_lines}
+use Rattle.one_query.proofs.Values.{value_at, parts_fit, value_at_words, found_lines}
 use Rattle.one_query.proofs.evaluate_lines.Goals as goal
 use Rattle.one_query.proofs.evaluate_lines.Goals.{After-line_value, In-loop-rest}
 
@@ -59,7 +59,7 @@ value c l =
     let same = c.laid-laid.ensures in
     let t = count_trailing_zeros 64 c.loop-rest.rest in
     c.line_value.ensures
-    ∙ value_at_lem z.file.bytes.now z.file.model z.xs.now t _ _ _ l.line.one c.requires.0 (rw (same.0, same.1) at c.kind.ensures) (rw (same.0, same.1) at c.threshold.ensures)
+    ∙ value_at_words z.file.bytes.now z.file.model z.xs.now t _ _ _ l.line.one c.requires.0 (rw (same.0, same.1) at c.kind.ensures) (rw (same.0, same.1) at c.threshold.ensures)
     (omega (arith, l.begins, c.words_in-at.ensures))
 
 pub loop-rest-preserved-then-line_value : goal.loop-rest-preserved-then-line_value

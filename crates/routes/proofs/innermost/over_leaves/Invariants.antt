@@ -1,4 +1,4 @@
--- `routes::innermost::innermost_level` meets its contract. The loop's invariant: the value is that of the leaves passed.
+-- `routes::innermost::over_leaves` meets its contract. The loop's invariant: the value is that of the leaves passed.
 -- Assumes nothing.
 use mathlib.Core.List.{List, []}
 use Prim.Native.Nat.{ℕ}
@@ -7,7 +7,7 @@ use Rattle.evaluator.specs.ByLevels.{Carried}
 use Rattle.model.specs.Files.{held_system}
 use Rattle.routes.proofs.Levels.{OverGives}
 use Rattle.routes.proofs.InnermostLevels.{after_leaves}
-use Rattle.routes.proofs.innermost.innermost_level.Given as goal
+use Rattle.routes.proofs.innermost.over_leaves.Given as goal
 
 abbrev pub invariant-loop : goal.invariant-loop
 invariant-loop l = let s = held_system l.file in

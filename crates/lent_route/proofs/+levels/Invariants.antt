@@ -1,7 +1,7 @@
--- The recursion of `lent_route`: a level goes over the children of its tree in a loop, each cut off by the next gap of the tree's height and worked out by the
--- level below. The measure is the levels left; that of the loop is the gaps left.
+-- The cycle of calls of `lent_route`: a level with levels below it goes over the children of its tree in a loop, each cut off by the next gap of the tree's
+-- height and worked out by the levels below. The measure is the levels left, twice, since a level may take two calls; that of the loop is the gaps left.
 -- Assumes nothing.
-use Rattle.std.proofs.Common.{Bool, List, length, ℕ, suc, ◌-◌, ◌≤◌}
+use Rattle.std.proofs.Common.{Bool, List, length, ℕ, suc, ◌+◌, ◌*◌, ◌-◌, ◌≤◌}
 use Rattle.system.specs.System.{System}
 use Rattle.model.specs.Files.{held_system}
 use Rattle.evaluator.specs.ByLevels.{Carried}
@@ -10,7 +10,7 @@ use Rattle.evaluator.specs.declared.Carry.{Carry}
 use Rattle.routes.proofs.Levels.{OverGives}
 use Rattle.lent_route.specs.declared.LentTree.{LentTree}
 use Rattle.lent_route.proofs.LentLevels.{Split}
-use Rattle.lent_route.proofs.+lent_level.Given as goal
+use Rattle.lent_route.proofs.+levels.Given as goal
 
 -- the children passed, and what they give
 pub record Passing (s : System) (below : ℕ) (bounds : Bounds) (carry : Carry) (greatest : Bool) (u v own : LentTree) (set count from : ℕ) : Type 0 where
@@ -21,10 +21,13 @@ pub record Passing (s : System) (below : ℕ) (bounds : Bounds) (carry : Carry) 
       → OverGives s below ys bounds u.gaps.now v.gaps.now greatest passed (record { set = set; count = count })
 
 abbrev pub decreases-lent_level : goal.decreases-lent_level
-decreases-lent_level l = l.k
+decreases-lent_level l = 2 * l.k
 
-abbrev pub invariant-loop-u : goal.invariant-loop-u
-invariant-loop-u l = Passing (held_system l.file) l.below l.bounds l.carry l.greatest l.u l.v l.own l.set l.count l.from
+abbrev pub decreases-outer_level : goal.decreases-outer_level
+decreases-outer_level l = 2 * l.below + 1
 
-abbrev pub decreases-loop-u : goal.decreases-loop-u
-decreases-loop-u l = length l.own.gaps.now - l.from
+abbrev pub invariant-outer_level-loop-u : goal.invariant-outer_level-loop-u
+invariant-outer_level-loop-u l = Passing (held_system l.file) l.below l.bounds l.carry l.greatest l.u l.v l.own l.set l.count l.from
+
+abbrev pub decreases-outer_level-loop-u : goal.decreases-outer_level-loop-u
+decreases-outer_level-loop-u l = length l.own.gaps.now - l.from
