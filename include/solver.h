@@ -22,7 +22,7 @@ extern "C" {
 #endif
 
 /* The section of docs/CHANGES.md that this header belongs to. */
-#define SOLVER_VERSION 16
+#define SOLVER_VERSION 17
 
 /* The limits of a model, and how much to lend so that it is enough for every model. */
 #define SOLVER_MAX_LINES 64

@@ -7,7 +7,7 @@ use Prim.Native.Nat.{ℕ, suc, ◌-◌, ◌^◌, ◌<◌}
 use native.Mathlib.Nat.{lt_of_le_of_lt}
 use native.Mathlib.Omega.{arith}
 use borrow.Author.Tests.{ltb-true, ltb-false, eqb-true}
-use lib.Bits.{bit_xor, and_le_r}
+use lib.Bits.{bit_xor, and_le_r, xor_zero_r}
 use lib.Dec.{eqb, leb, ltb}
 use lib.ListN.{length, get_or}
 use lib.Pow.{ones_lt}
@@ -162,6 +162,17 @@ module _ (s : System) (votes : VotesNeed s) (k x a b : ℕ) (w : Pending) (needs
   -- so what is decided is right, whatever arguments stand for what was carried, and only lines of the system need less
   pub next : (lowered < 2 ^ s.lines) × ((ys : List ℕ) → Carried s (suc k) ys a b w needs → Next s k x ys a b needs record { pending = after; lowered = lowered })
   next = (lowered_few, λ ys carried. record { decided = decided_next ys carried; still_needs_lem = needs_next ys carried })
+
+-- where no line is asked, nothing changes
+module _ (s : System) (votes : VotesNeed s) (k x a b : ℕ) (w : Pending) (needs : List ℕ) (room : (i : ℕ) → i < s.lines → k < length (words_of s i))
+    (few : w.undecided < 2 ^ s.lines) (out : ℕ) (out-is : out ≡ left_out x) (none : asked_of a b w ≡ 0) where
+  within_none : (y i : ℕ) (t : Bool) → is_member 0 i ≡ (is_member (intersection (asked_of a b w) y) i && t)
+  within_none y i t = rw (none, member_meet 0 y i, member_empty i) refl
+
+  pub next_none : (0 < 2 ^ s.lines)
+      × ((ys : List ℕ) → Carried s (suc k) ys a b w needs → Next s k x ys a b needs record { pending = record { set = w.set; undecided = 0 }; lowered = 0 })
+  next_none =
+      rw (none, xor_zero_r w.set) at (next s votes k x a b w needs room few 0 0 0 (λ i. within_none _ i _) (λ i. within_none _ i _) out out-is (λ i. within_none _ i _))
 
 -- where no line needs less
 pub lowered_none : (s : System) (k x : ℕ) (needs : List ℕ) {lines : ℕ} → lines ≡ 0 → Lowered s k x lines needs needs

@@ -179,6 +179,13 @@ pub fn decide(file: HeldFile, k: usize, x: u64, bounds: Bounds, carry: Carry) ->
 {
     let w = carry.pending;
     let asked = w.undecided & (bounds.high & (bounds.high ^ bounds.low));
+    // Often the levels above leave nothing to ask: then no line is looked at.
+    if asked == 0 {
+        return Decision {
+            pending: Pending { undecided: 0, ..w },
+            lowered: 0,
+        };
+    }
     let missed = selecting(file, k, asked & w.set, !x);
     let hits = meeting(file, k, asked & (asked ^ w.set), x, carry.needs);
     let decided = hits.met | missed;

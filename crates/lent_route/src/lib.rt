@@ -2,13 +2,14 @@
 #![tactic(auto)]
 
 ghost use Rattle.std.specs.Prelude.{◌≡◌, ℕ, suc, ◌-◌, ◌<◌, ◌≤◌, List, length, get_or, drop};
+ghost use Rattle.system.specs.System.{sign};
 ghost use Rattle.model.specs.Files.{held_system};
 ghost use Rattle.evaluator.specs.ByLevels.{Carried, SomeCarry};
 ghost use Rattle.lent_route.specs.Child.{NoneBefore, FirstChild};
 ghost use Rattle.lent_route.specs.LentProp.{Lent-prop};
 ghost use Rattle.routes.specs.Parts.{Lent, Gives, least_of, greatest_of, restricted_from, queries_from};
 
-use evaluator::{Bounds, Carry, decide, lower_needs};
+use evaluator::{Bounds, Carry, Pending, decide, lower_needs};
 use model::HeldFile;
 use routes::{Found, innermost_level};
 
@@ -52,8 +53,6 @@ impl<'a> LentTree<'a> {
 
 // The restricted set of the levels k, .., 1 over the trees u and v, whose heights are the least and the greatest of these levels. Level k goes over the children
 // of the tree of its sign: each moves its bound, and with it the value.
-#[cycle(levels)]
-#[inline(always)]
 pub fn lent_level<'a>(
     file: HeldFile,
     k: usize,
@@ -71,59 +70,87 @@ pub fn lent_level<'a>(
         let vt = v.entry.gaps.now in
         (ys : List ℕ) → Carried s k ys bounds.low bounds.high w.pending w.needs.now → Gives result (restricted_from s k ys bounds.low bounds.high ut vt) (queries_from s k ut vt) }
 {
-    let below = k - 1;
-    if below == 0 {
-        let greatest = file.is_greatest(below);
-        let own = if greatest { v } else { u };
-        return innermost_level(file, bounds, carry, greatest, own.gaps.len() + 1);
-    }
-    outer_level(file, below, bounds, carry, u, v)
+    level(&file, k, bounds, carry.pending, carry.needs, &u, &v)
 }
 
-// Level below + 1, which has levels below it. A function of its own, so that an innermost level is compiled into the loop that goes over it and is no call.
+// The same. The file and the trees are handed on by reference, and what is carried in its two parts, which fit registers: copying all of them takes longer than all
+// else that a level with one child does.
 #[cycle(levels)]
-fn outer_level<'a>(
-    file: HeldFile,
-    below: usize,
+fn level<'a>(
+    file: &HeldFile,
+    k: usize,
     bounds: Bounds,
-    carry: Carry,
-    u: LentTree<'a>,
-    v: LentTree<'a>,
+    pending: Pending,
+    needs: &[u8; 64],
+    u: &LentTree<'a>,
+    v: &LentTree<'a>,
 ) -> Found
-    requires carried { SomeCarry (held_system file) (suc below) bounds.low bounds.high carry.pending carry.needs.now }
-    requires below_nonzero { (0 < below) × (below < file.model.levels) }
-    requires heights { (u.height ≡ least_of (held_system file) (suc below)) × (v.height ≡ greatest_of (held_system file) (suc below)) }
-    ensures { let s = held_system file.entry in
-        let w = carry.entry in
-        let k = suc below in
-        let ut = u.entry.gaps.now in
-        let vt = v.entry.gaps.now in
-        (ys : List ℕ) → Carried s k ys bounds.low bounds.high w.pending w.needs.now → Gives result (restricted_from s k ys bounds.low bounds.high ut vt) (queries_from s k ut vt) }
+    requires carried { SomeCarry (held_system file.now) k bounds.low bounds.high pending needs.now }
+    requires k_nonzero { (0 < k) × (k ≤ file.now.model.levels) }
+    requires heights { (u.now.height ≡ least_of (held_system file.now) k) × (v.now.height ≡ greatest_of (held_system file.now) k) }
+    ensures { let s = held_system file.now in
+        let ut = u.now.gaps.now in
+        let vt = v.now.gaps.now in
+        (ys : List ℕ) → Carried s k ys bounds.low bounds.high pending needs.now → Gives result (restricted_from s k ys bounds.low bounds.high ut vt) (queries_from s k ut vt) }
 {
+    let below = k - 1;
     let greatest = file.is_greatest(below);
-    let own = if greatest { v } else { u };
+    if below == 0 {
+        let own = if greatest { *v } else { *u };
+        let carry = Carry { pending, needs };
+        return innermost_level(*file, bounds, carry, greatest, own.gaps.len() + 1);
+    }
+    if greatest {
+        over_children(file, below, true, bounds, pending, needs, u, v)
+    } else {
+        over_children(file, below, false, bounds, pending, needs, u, v)
+    }
+}
+
+// A level of this sign with `below` levels below it. It is compiled once for each sign, so that no child asks for it.
+#[cycle(levels)]
+#[inline(always)]
+fn over_children<'a>(
+    file: &HeldFile,
+    below: usize,
+    greatest: bool,
+    bounds: Bounds,
+    pending: Pending,
+    needs: &[u8; 64],
+    u: &LentTree<'a>,
+    v: &LentTree<'a>,
+) -> Found
+    requires carried { SomeCarry (held_system file.now) (suc below) bounds.low bounds.high pending needs.now }
+    requires below_nonzero { (0 < below) × (below < file.now.model.levels) }
+    requires sign_is { sign (held_system file.now) below ≡ greatest }
+    requires heights { (u.now.height ≡ least_of (held_system file.now) (suc below)) × (v.now.height ≡ greatest_of (held_system file.now) (suc below)) }
+    ensures { let s = held_system file.now in
+        let k = suc below in
+        let ut = u.now.gaps.now in
+        let vt = v.now.gaps.now in
+        (ys : List ℕ) → Carried s k ys bounds.low bounds.high pending needs.now → Gives result (restricted_from s k ys bounds.low bounds.high ut vt) (queries_from s k ut vt) }
+{
+    let own = if greatest { *v } else { *u };
     let mut set = bounds.start(greatest);
     let mut count: u64 = 0;
     let mut from = 0;
-    loop {
+    // What is still needed below a child whose argument lowers it.
+    let mut row = [0u8; 64];
+    'children: loop {
         let child = own.child_from(from);
-        let least = if greatest { u } else { child };
-        let most = if greatest { child } else { v };
         let between = bounds.moved(greatest, set);
-        let decision = decide(file, below, set, between, carry);
-        let next = Carry {
-            pending: decision.pending,
-            ..carry
-        };
-        let found = if decision.lowered == 0 {
-            lent_level(file, below, between, next, least, most)
+        let decision = decide(*file, below, set, between, Carry { pending, needs });
+        let next = decision.pending;
+        let still = if decision.lowered == 0 {
+            needs
         } else {
-            let needs = lower_needs(file, below, set, decision.lowered, carry.needs);
-            let lowered = Carry {
-                needs: &needs,
-                ..next
-            };
-            lent_level(file, below, between, lowered, least, most)
+            row = lower_needs(*file, below, set, decision.lowered, needs);
+            &row
+        };
+        let found = if greatest {
+            level(file, below, between, next, still, u, &child)
+        } else {
+            level(file, below, between, next, still, &child, v)
         };
         set = found.set;
         count += found.count;

@@ -1,7 +1,7 @@
 // The plain route: rounds of each level from its own start, under a ceiling on the queries. Definitions: specs/.
 #![tactic(auto)]
 
-ghost use Rattle.std.specs.Prelude.{◌≡◌, List, ℕ, ◌<◌, ◌≤◌, ◌^◌};
+ghost use Rattle.std.specs.Prelude.{◌≡◌, List, ℕ, suc, ◌<◌, ◌≤◌, ◌^◌};
 ghost use Rattle.model.specs.Files.{held_system};
 ghost use Rattle.evaluator.specs.ByLevels.{Carried, SomeCarry};
 ghost use Rattle.routes.specs.Parts.{plain_from};
@@ -18,6 +18,7 @@ pub struct Settled {
 }
 
 // The rounds of the innermost level: each is one query, and takes one off what is left of the ceiling.
+#[inline(always)]
 fn innermost_rounds(file: HeldFile, bounds: Bounds, carry: Carry, left: u64) -> Option<Settled>
     requires { (0 < file.model.levels) × (carry.pending.undecided < 2 ^ file.model.lines) }
     ensures { let s = held_system file.entry in
@@ -36,6 +37,8 @@ fn innermost_rounds(file: HeldFile, bounds: Bounds, carry: Carry, left: u64) -> 
 }
 
 // The plain rounds of the levels k, .., 1, or nothing where they need more queries than the ceiling allows.
+#[cycle(levels)]
+#[inline(always)]
 pub fn plain_level(
     file: HeldFile,
     bounds: Bounds,
@@ -53,24 +56,41 @@ pub fn plain_level(
     if below == 0 {
         return innermost_rounds(file, bounds, carry, left);
     }
+    outer_level(file, bounds, below, carry, left)
+}
+
+// Level below + 1, which has levels below it. A function of its own, so that an innermost level is compiled into the rounds of the level around it and is no call.
+#[cycle(levels)]
+fn outer_level(
+    file: HeldFile,
+    bounds: Bounds,
+    below: usize,
+    carry: Carry,
+    left: u64,
+) -> Option<Settled>
+    requires carried { SomeCarry (held_system file) (suc below) bounds.low bounds.high carry.pending carry.needs.now }
+    requires below_nonzero { (0 < below) × (below < file.model.levels) }
+    ensures { let s = held_system file.entry in
+        let w = carry.entry in
+        let k = suc below in
+        (rounds : ℕ) → left < rounds → (ys : List ℕ) → Carried s k ys bounds.low bounds.high w.pending w.needs.now → result ≡ under left (plain_from rounds s bounds.low bounds.high k ys) }
+{
     let mut x = bounds.start(file.is_greatest(below));
     let mut rest = left;
-    loop {
+    let mut row = [0u8; 64];
+    'rounds: loop {
         let decision = decide(file, below, x, bounds, carry);
+        let needs = if decision.lowered == 0 {
+            carry.needs
+        } else {
+            row = lower_needs(file, below, x, decision.lowered, carry.needs);
+            &row
+        };
         let next = Carry {
             pending: decision.pending,
-            ..carry
+            needs,
         };
-        let round = if decision.lowered == 0 {
-            plain_level(file, bounds, below, next, rest)
-        } else {
-            let needs = lower_needs(file, below, x, decision.lowered, carry.needs);
-            let lowered = Carry {
-                needs: &needs,
-                ..next
-            };
-            plain_level(file, bounds, below, lowered, rest)
-        };
+        let round = plain_level(file, bounds, below, next, rest);
         let Settled { set, left: unused } = round?;
         // Made anew, and not the round handed on, which is equal: on dense models that copy takes up to two thirds as long again (docs/DECISIONS.md, "Speed").
         if set == x {

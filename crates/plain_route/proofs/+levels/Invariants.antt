@@ -1,7 +1,8 @@
--- `plain_route::plain_level` meets its contract. The measure is the levels left. The loop's invariant: the level's run ends as the run
--- from the present value does under what is left of the ceiling (Rounds.antt); what is left falls with every round.
+-- The cycle of calls of `plain_route`: a level with levels below it makes rounds of these. The measure is twice the levels left, and for the rounds one more than
+-- twice those below. The loop's invariant: the level's run ends as the run from the present value does under what is left of the ceiling (Rounds.antt); what is
+-- left falls with every round.
 -- Assumes nothing.
-use Rattle.std.proofs.Common.{List, ◌∷◌, ℕ, suc, ◌≤◌, ◌<◌}
+use Rattle.std.proofs.Common.{List, ◌∷◌, ℕ, suc, ◌+◌, ◌*◌, ◌≤◌, ◌<◌}
 use Rattle.system.specs.System.{System}
 use Rattle.model.specs.Files.{held_system}
 use Rattle.fixpoint.specs.Plain.{Run}
@@ -10,7 +11,7 @@ use Rattle.evaluator.specs.declared.Bounds.{Bounds}
 use Rattle.evaluator.specs.declared.Carry.{Carry}
 use Rattle.routes.specs.Parts.{plain_from}
 use Rattle.plain_route.proofs.Rounds.{Ahead}
-use Rattle.plain_route.proofs.+plain_level.Given as goal
+use Rattle.plain_route.proofs.+levels.Given as goal
 
 -- one round of the level above `below` levels, as a function of its argument
 abbrev pub round_of : ℕ → System → Bounds → ℕ → List ℕ → ℕ → Run ℕ
@@ -22,10 +23,13 @@ pub record Going (s : System) (bounds : Bounds) (carry : Carry) (left below x re
       → Ahead (round_of rounds s bounds below ys) (plain_from rounds s bounds.low bounds.high (suc below) ys) left x rest
 
 abbrev pub decreases-plain_level : goal.decreases-plain_level
-decreases-plain_level l = l.k
+decreases-plain_level l = 2 * l.k
 
-abbrev pub invariant-loop-decision : goal.invariant-loop-decision
-invariant-loop-decision l = Going (held_system l.file) l.bounds l.carry l.left l.below l.x l.rest
+abbrev pub decreases-outer_level : goal.decreases-outer_level
+decreases-outer_level l = 2 * l.below + 1
 
-abbrev pub decreases-loop-decision : goal.decreases-loop-decision
-decreases-loop-decision l = l.rest
+abbrev pub invariant-outer_level-rounds : goal.invariant-outer_level-rounds
+invariant-outer_level-rounds l = Going (held_system l.file) l.bounds l.carry l.left l.below l.x l.rest
+
+abbrev pub decreases-outer_level-rounds : goal.decreases-outer_level-rounds
+decreases-outer_level-rounds l = l.rest
